@@ -17,18 +17,11 @@ const EILSEQ: i32 = 84;
 // That for an argument that is missing.
 const EINVAL: i32 = 22;
 
-fn is_missing(got: Result<usize, FillError>) -> bool {
-    match got {
-        Err(FillError::NotPresent) => true,
-        _ => false,
-    }
-}
-
 // How many arguments the program was started with, its own name among them.
 pub fn count(env: &impl Env) -> usize {
     let mut word = [0u8; 4096];
     for i in 0..usize::MAX {
-        if is_missing(env.arg(i, &mut word)) {
+        if matches!(env.arg(i, &mut word), Err(FillError::NotPresent)) {
             return i;
         }
     }

@@ -1,20 +1,11 @@
 -- The walk over the layers of a solid tile, step by step. Assumes nothing.
-use Rattle.std.specs.Prelude.{◌≡◌, ◌∷◌, ◌+◌, ◌-◌, ◌*◌, ◌≤◌, ◌<◌}
+use Rattle.std.specs.Prelude.{◌≡◌, ◌∷◌, ◌+◌, ◌*◌, ◌≤◌, ◌<◌}
 use Rattle.laws.proofs.Prelude.{refl, ap, sym, ◌∙◌, Bool, true, false, cond, List, [], ℕ, zero, suc, arith, length}
 use Rattle.laws.proofs.Prelude.{drop, take, get_or, sets, length-take-le, get_or-take}
 use Rattle.row_lines.specs.Shown.{shown_in}
 use Rattle.shown_layers.proofs.Rest.{walk_next_lem, walk_end}
 use Rattle.batch_statements.specs.BatchLent.{WordsAt, words_at, mixes_from}
 use Rattle.batch_mixing.specs.InnerMixing.{MixAt, mix_by, mix_next, mix_from}
-
--- a layer that is shown is passed over or noted
-pub passed_over : (before : ℕ) (w : WordsAt) (id : ℕ) → 0 < before → record { before = before - 1; words = w } ≡ mix_by before w id
-passed_over zero w id h = absurd (omega (arith, h))
-passed_over (suc before) w id h = ap (λ (n : ℕ). record { before = n; words = w }) (omega arith)
-
-pub is_noted : (before : ℕ) (w : WordsAt) (id : ℕ) → before ≤ 0 → record { before = 0; words = words_at (w.used + 1) (sets w.painted (w.used * 2) (id ∷ 0 ∷ [])) } ≡ mix_by before w id
-is_noted zero w id h = refl
-is_noted (suc before) w id h = absurd (omega (arith, h))
 
 pub none_mixed : (w : WordsAt) → w ≡ mixes_from w []
 unfolding mixes_from
@@ -52,9 +43,6 @@ pub record Walking (ids : List ℕ) (unmasked : List Bool) (skipped listed : ℕ
 module _ (ids : List ℕ) (unmasked : List Bool) (skipped listed : ℕ) (x₀ : MixAt) (room : listed ≤ length ids) (flags : listed ≤ length unmasked) where
   all_ids : length (take listed ids) ≡ listed
   all_ids = length-take-le listed ids room
-
-  pub start : skipped ≤ listed → Walking ids unmasked skipped listed x₀ x₀ skipped
-  start h = record { within = h; few = omega arith; rest = refl }
 
   module _ {x : MixAt} {i : ℕ} (v : Walking ids unmasked skipped listed x₀ x i) where
     pub next : {r : MixAt} → i < listed → r ≡ cond (get_or unmasked i false) (mix_next x (get_or ids i 0)) x → Walking ids unmasked skipped listed x₀ r (i + 1)

@@ -60,10 +60,9 @@ fn mix_listed(
         before: before,
         used: used,
     };
-    let mut i = skipped;
-    while i < listed {
-        at = mix_entry(list_unmasked[i], list_ids[i], at, painted);
-        i += 1;
+    let flags = &list_unmasked[skipped..listed];
+    for (unmasked, id) in flags.iter().zip(&list_ids[skipped..listed]) {
+        at = mix_entry(*unmasked, *id, at, painted);
     }
     at.used
 }

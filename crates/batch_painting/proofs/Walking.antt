@@ -1,19 +1,17 @@
 -- The shown layers of a tile, painted in one walk: each step is a layer that is painted into the next plane or passed over, and what is left of the
 -- walk gives what the whole list gives. Assumes nothing.
 use Rattle.std.specs.Prelude.{◌≡◌, ◌∷◌, ◌+◌, ◌*◌, ◌≤◌, ◌<◌}
-use Rattle.laws.proofs.Prelude.{ap, sym, ◌∙◌, Bool, true, false, cond, List, [], Option, none, ℕ, arith}
+use Rattle.laws.proofs.Prelude.{ap, sym, ◌∙◌, Bool, true, false, cond, List, [], Option, None, ℕ, arith}
 use Rattle.laws.proofs.Prelude.{Float, ℤ, length, take, get_or, sets, over}
 use Rattle.styling.specs.declared.Layer.{Layer}
 use Rattle.queue_statements.specs.Queue.{Carry, queue_of}
 use Rattle.tile_layers.specs.Listing.{layers_in}
-use Rattle.painter.specs.Clip.{clip_in}
 use Rattle.painter.specs.Painting.{plane_in}
-use Rattle.painter.specs.declared.Clip as painter
 use Rattle.row_statements.specs.State.{State, state_in, with_clip}
 use Rattle.row_statements.specs.Painting.{layer_in}
 use Rattle.row_statements.specs.declared.RowState.{RowState}
 use Rattle.row_lines.specs.Shown.{shown_in}
-use Rattle.listed_painting.specs.InnerWalk.{WalkHolds, WalkStarts, PassesOver, CanPaint, PaintsNext, id_in}
+use Rattle.listed_painting.specs.InnerWalk.{WalkHolds, PassesOver, CanPaint, PaintsNext, id_in}
 use Rattle.listed_painting.specs.declared.PaintWalk.{PaintWalk}
 use Rattle.listed_painting.specs.declared.PaintedNext.{PaintedNext}
 use Rattle.shown_layers.specs.Counting.{ids_of}
@@ -54,7 +52,7 @@ module _ (table : List Layer) (n : ℕ) (ids : List ℕ) (covers : List ℤ) (pa
         one_more = p.one_more;
         walk_is =
             λ base.
-            ap (λ (c : painter.Clip). record { at = record { state = with_clip base (clip_in c); used = t.used; planes = planes; painted = words }; shown = t.shown }) p.clip_kept
+            ap (λ (c : Option ℕ). record { at = record { state = with_clip base c; used = t.used; planes = planes; painted = words }; shown = t.shown }) p.clip_kept
             ∙ sym (ap (λ (x : Bool). cond x (walk_next true table queue part (walk_on base t planes words) (id_in queue part t.walk.passed)) (walk_on base t planes words)) e);
         used_few = omega arith;
         shown_few = omega arith;
@@ -64,7 +62,7 @@ module _ (table : List Layer) (n : ℕ) (ids : List ℕ) (covers : List ℤ) (pa
 
   module _ (shown : List Bool) (skipped m used : ℕ) (planes₀ : List Float) (words₀ : List ℕ) where
     abbrev begun : State → WalkAt
-    begun base = record { at = record { state = with_clip base none; used = used; planes = planes₀; painted = words₀ }; shown = 0 }
+    begun base = record { at = record { state = with_clip base None; used = used; planes = planes₀; painted = words₀ }; shown = 0 }
 
     pub record Walked (t : PlaneWalk) (planes : List Float) (words : List ℕ) (i : ℕ) : Type 0 where
       pub holds : WalkHolds table n ids covers part t.walk
@@ -72,16 +70,6 @@ module _ (table : List Layer) (n : ℕ) (ids : List ℕ) (covers : List ℤ) (pa
       pub few : t.shown ≤ i
       pub room : t.used ≤ used + i
       pub same : (base : State) → walk_from true table (queue_of n ids covers) part (walk_on base t planes words) (shown_in i (take m shown) (ids_of (queue_of n ids covers) part)) ≡ walk_from true table (queue_of n ids covers) part (begun base) (shown_in skipped (take m shown) (ids_of (queue_of n ids covers) part))
-
-    pub walked_start : {w : PaintWalk} → WalkStarts table n ids covers part skipped w → Walked (record { walk = w; used = used; shown = 0 }) planes₀ words₀ skipped
-    walked_start {w} s =
-        record {
-          holds = s.holds;
-          past = s.past;
-          few = omega arith;
-          room = omega arith;
-          same = λ base. ap (λ (c : Option ℕ). walk_from true table (queue_of n ids covers) part (record { at = record { state = with_clip base c; used = used; planes = planes₀; painted = words₀ }; shown = 0 }) (shown_in skipped (take m shown) (ids_of (queue_of n ids covers) part))) s.no_clip;
-        }
 
     module _ (w : Walkable table (queue_of n ids covers) part shown skipped m) where
       all_ids : length (ids_of (queue_of n ids covers) part) ≡ m
@@ -130,7 +118,7 @@ module _ (table : List Layer) (n : ℕ) (ids : List ℕ) (covers : List ℤ) (pa
 
 -- ---- a painted tile, from a state without a clip to the one with the clip that the walk left
 
-pub all_painted : {paints : Bool} (table : List Layer) (queue : List Carry) (part ids : List ℕ) (used : ℕ) (planes : List Float) (words : List ℕ) {planes' : List Float} {words' : List ℕ} {t : PlaneWalk} {after : RowState} (state : RowState) → paints ≡ true → clip_in state.clip ≡ none
+pub all_painted : {paints : Bool} (table : List Layer) (queue : List Carry) (part ids : List ℕ) (used : ℕ) (planes : List Float) (words : List ℕ) {planes' : List Float} {words' : List ℕ} {t : PlaneWalk} {after : RowState} (state : RowState) → paints ≡ true → state.clip ≡ None
     → after ≡ record { tile_y = state.tile_y; from = state.from; to = state.to; next = state.next; left = state.left; taken = state.taken; clip = t.walk.clip }
     → AllPainted table queue part ids used planes words t planes' words'
     → walk_at (record { state = after; used = t.used; shown = t.shown }) planes' words' ≡ walk_from paints table queue part (walk_at (record { state = state; used = used; shown = 0 }) planes words) ids

@@ -1,10 +1,9 @@
 -- What the walk over a tile's shown layers asks and gives: each is counted and, where the tile is painted, painted into the next plane.
 -- tile_batch/proofs has that these are the paintings of batch_statements/specs/Batch.
 use Rattle.std.specs.Prelude.{◌≡◌, ◌∷◌, ◌+◌, ◌*◌, ◌≤◌}
-use Rattle.laws.specs.Prelude.{Bool, true, false, cond, List, [], none, ℕ, Float, ℤ, length, sets, over}
+use Rattle.laws.specs.Prelude.{Bool, true, false, cond, List, [], None, ℕ, Float, ℤ, length, sets, over}
 use Rattle.styling.specs.declared.Layer.{Layer}
 use Rattle.queue_statements.specs.Queue.{Carry, queue_of}
-use Rattle.painter.specs.Clip.{clip_in}
 use Rattle.row_statements.specs.State.{State, state_in, with_clip}
 use Rattle.row_statements.specs.Painting.{PaintSays, paint_says}
 use Rattle.listed_painting.specs.InnerWalk.{WalkHolds, id_in}
@@ -52,7 +51,7 @@ pub record PlaneRoom (used n : ℕ) (planes : List Float) (painted : List ℕ) :
 
 abbrev pub walk_on : State → PlaneWalk → List Float → List ℕ → WalkAt
 walk_on base t planes painted =
-    record { at = record { state = with_clip base (clip_in t.walk.clip); used = t.used; planes = planes; painted = painted }; shown = t.shown }
+    record { at = record { state = with_clip base t.walk.clip; used = t.used; planes = planes; painted = painted }; shown = t.shown }
 
 -- the next layer of a painted tile: the walk is past it, and it is painted into the next plane where it is not masked off
 pub record EntryPainted (unmasked : Bool) (table : List Layer) (n : ℕ) (ids : List ℕ) (covers : List ℤ) (part : List ℕ) (t : PlaneWalk) (planes : List Float) (painted : List ℕ) (r : PlaneWalk) (planes' : List Float) (painted' : List ℕ) : Type 0 where
@@ -64,4 +63,4 @@ pub record EntryPainted (unmasked : Bool) (table : List Layer) (n : ℕ) (ids : 
 
 -- the layers `ids` of a painted tile, in whatever state the painter has no clip
 pub record AllPainted (table : List Layer) (queue : List Carry) (part ids : List ℕ) (used : ℕ) (planes : List Float) (painted : List ℕ) (r : PlaneWalk) (planes' : List Float) (painted' : List ℕ) : Type 0 where
-  pub walk_is : (base : State) → walk_on base r planes' painted' ≡ walk_from true table queue part (record { at = record { state = with_clip base none; used = used; planes = planes; painted = painted }; shown = 0 }) ids
+  pub walk_is : (base : State) → walk_on base r planes' painted' ≡ walk_from true table queue part (record { at = record { state = with_clip base None; used = used; planes = planes; painted = painted }; shown = 0 }) ids

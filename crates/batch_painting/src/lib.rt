@@ -3,10 +3,9 @@
 #![tactic(auto)]
 
 ghost use Rattle.std.specs.Prelude.{◌≡◌, true, ◌≤◌, take};
-ghost use Rattle.std.proofs.Math.Option.{none};
+ghost use Rattle.std.specs.Prelude.{None};
 ghost use Rattle.layer_table.specs.Table.{table_of};
 ghost use Rattle.queue_statements.specs.Queue.{queue_of};
-ghost use Rattle.painter.specs.Clip.{clip_in};
 ghost use Rattle.listed_painting.specs.InnerWalk.{Painter, WalkHolds, CanPaint};
 ghost use Rattle.row_lines.specs.Shown.{shown_in};
 ghost use Rattle.shown_layers.specs.Counting.{ids_of};
@@ -14,7 +13,6 @@ ghost use Rattle.shown_layers.specs.InnerTally.{Walkable};
 ghost use Rattle.batch_painting.specs.InnerShown.{walk_at, walk_from, PlaneRoom, EntryPainted, AllPainted};
 
 use listed_painting::PaintWalk;
-use painter::Clip;
 use row_statements::RowState;
 
 // The state with the painter's clip, how many planes are used, and how many layers were shown.
@@ -33,7 +31,7 @@ pub struct PlaneWalk {
     pub shown: usize,
 }
 
-fn with_clip(state: RowState, clip: Clip) -> RowState
+fn with_clip(state: RowState, clip: Option<u32>) -> RowState
     ensures { result ≡ record {
       tile_y = state.tile_y;
       from = state.from;
@@ -173,22 +171,10 @@ fn paint_listed(
         used: used,
         shown: 0,
     };
-    let mut i = skipped;
-    while i < listed {
+    for unmasked in &list_unmasked[skipped..listed] {
         at = paint_entry(
-            list_unmasked[i],
-            ids,
-            covers,
-            n,
-            part,
-            layers,
-            colors,
-            count,
-            at,
-            planes,
-            painted,
+            *unmasked, ids, covers, n, part, layers, colors, count, at, planes, painted,
         );
-        i += 1;
     }
     at
 }
@@ -214,7 +200,7 @@ pub fn paint_shown(
     requires { Painter n ids.now covers.now part.now layers.now colors.now count
         × Walkable (table_of layers.now colors.now count) (queue_of n ids.now covers.now) part.now
         list_unmasked.now skipped listed
-        × PlaneRoom used listed planes.old painted.old × (clip_in state.clip ≡ none) }
+        × PlaneRoom used listed planes.old painted.old × (state.clip ≡ None) }
     ensures { walk_at result planes.new painted.new
         ≡ walk_from paints (table_of layers.now colors.now count)
         (queue_of n ids.now covers.now) part.now

@@ -1,5 +1,5 @@
 -- A batch in a run is a list of calls of that run, so that what it gives is what is due; and there is such a batch. Assumes nothing.
-use Rattle.std.specs.Prelude.{◌≡◌, ◌||◌, ◌++◌, ◌+◌, ◌*◌, ◌/◌, ◌≤◌, ◌<◌}
+use Rattle.std.specs.Prelude.{◌≡◌, ◌||◌, ◌++◌, ◌+◌, ◌*◌, ◌/◌, ◌≤◌, ◌<◌, Option}
 use Rattle.laws.proofs.Prelude.{refl, ap, sym, subst, ◌∙◌, true, false, List, [], ℕ, zero, suc, min, arith}
 use Rattle.laws.proofs.Prelude.{eq-eqb, le-ltb, lt-ltb, le-leb, lt-leb, ltb, leb, Float, binary32, of_bits, pos, length, replicate, length-replicate}
 use Rattle.laws.proofs.Prelude.{both}
@@ -7,7 +7,6 @@ use Rattle.refusals.specs.Refusal.{pass}
 use Rattle.pixel_segment.specs.Field.{cpu}
 use Rattle.segment_rows.specs.Rows.{is_row}
 use Rattle.styling.specs.declared.Color.{Color}
-use Rattle.layer_workbench.specs.declared.PreviousClear.{PreviousClear}
 use Rattle.queue_statements.specs.Queue.{is_queue}
 use Rattle.row_statements.specs.Lent.{Columns, LentTable, is_queue_short, is_list_short, is_lent_short}
 use Rattle.row_statements.specs.State.{State, is_stray, is_not_next}
@@ -75,7 +74,7 @@ batch_run k lent back s es h c m w g r called =
 
 -- ---- the claim is not empty: wherever a tile is left, any number of tiles can be asked for; there is room for all of them, and 1 to 6 do not refuse the first
 
-module _ (o : OpenRow) (p : Past) (h : Held) (is_open : IsOpen o) (holds : Holds o p h) (inside : o.from + p.tiles < o.to) (tiles : ℕ) (clear : Color) (previous : PreviousClear) where
+module _ (o : OpenRow) (p : Past) (h : Held) (is_open : IsOpen o) (holds : Holds o p h) (inside : o.from + p.tiles < o.to) (tiles : ℕ) (clear : Color) (previous : Option Color) where
   abbrev zero_coverage : Float
   zero_coverage = of_bits binary32 0
 

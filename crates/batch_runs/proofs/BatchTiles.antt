@@ -1,15 +1,16 @@
 -- The calls that a batch stands for, tile after tile, go on with a run: none of the paintings is refused, and what the batch leaves is what they leave.
 -- Assumes nothing.
-use Rattle.std.specs.Prelude.{◌≡◌, ◌||◌, ◌∷◌, ◌++◌, ◌+◌, ◌-◌, ◌*◌, ◌≤◌, ◌<◌}
+use Rattle.row_statements.specs.declared.TileDone.{TileDone}
+use Rattle.refusals.specs.declared.Refusal.{Refusal}
+use Rattle.std.specs.Prelude.{◌≡◌, ◌||◌, ◌∷◌, ◌++◌, ◌+◌, ◌-◌, ◌*◌, ◌≤◌, ◌<◌, Result, Ok, Err}
 use Rattle.laws.proofs.Prelude.{refl, ap, ap₂, sym, subst, ◌∙◌, Bool, true, false, cond, List, [], Option, ℕ, zero, suc}
 use Rattle.laws.proofs.Prelude.{min, arith, eq-eqb, ne_eqb, le-ltb, leb-true, ltb, leb, Float, ℤ, pos, length, take, drop}
 use Rattle.laws.proofs.Prelude.{length-drop, length-map, sets, length-sets, length-take-le, Answer, refused, given, right}
-use mathlib.Core.Option as option
-use Rattle.refusals.specs.Refusal.{Judgement, pass, refuse, unless}
+use Rattle.std.specs.declared.option.Option.TheVariants as option
+use Rattle.refusals.specs.Refusal.{Judgement, pass, refuse, unless, given_or_refused}
 use Rattle.refusals.proofs.Judging.{passed}
 use Rattle.segment_rows.specs.Search.{tile_part}
 use Rattle.styling.specs.declared.Color.{Color}
-use Rattle.layer_workbench.specs.declared.PreviousClear.{PreviousClear}
 use Rattle.painter.specs.Clip.{clip_after}
 use Rattle.cached_tile.specs.Kept.{tag_out_of_range}
 use Rattle.queue_statements.specs.Queue.{ids_in}
@@ -20,12 +21,10 @@ use Rattle.row_carries.proofs.Carried.{queue_ascends}
 use Rattle.row_carries.proofs.Parts.{tile_ordered}
 use Rattle.row_statements.specs.Lent.{Columns, is_queue_short, is_list_short}
 use Rattle.row_statements.specs.State.{State, state_in}
-use Rattle.row_statements.specs.Painting.{PaintGiven, paint_out, paint_of, layer_verdict, PaintsLayer, paint_answer}
+use Rattle.row_statements.specs.Painting.{PaintGiven, paint_out, paint_of, layer_verdict, PaintsLayer}
 use Rattle.row_statements.specs.TileWork.{list_verdict, WorkLent, WorkGiven, TileAnswer, tile_answer, work_call, work_out, work_of, work_answer, GivesWork}
 use Rattle.row_statements.specs.Claim.{RightWork}
 use Rattle.row_statements.specs.declared.TileWorked.{TileWorked}
-use Rattle.row_statements.specs.declared.WorkAnswer.{WorkAnswer}
-use Rattle.row_statements.specs.declared.WorkAnswer.TheVariants as worked
 use Rattle.row_statements.specs.Due.{WorkChoice, is_not_due, layers_on, outcome_on, work_due_verdict, says_on, work_due, past_work, OpenRow, table_on, queue_on, state_on, PaintChoice, paint_due_verdict, paint_on, paint_due, mark_on, past_paint, func_on}
 use Rattle.row_statements.specs.Run.{Held, SameCarries, work_on, held_after, paint_onto, Event, Step, Run}
 use Rattle.row_statements.specs.InnerHolding.{IsOpen, Holds}
@@ -62,7 +61,7 @@ pub record DrivenTo (o : OpenRow) (c : BatchRow) (r : room.Room) (k : ℕ) (h : 
   pub taken : (0 < s.worked → h.taken ≡ s.lent.other) → 0 < g.at.worked → after.taken ≡ g.at.lent.other
   pub still : g.at.worked ≡ s.worked → after.taken ≡ h.taken
 
-module _ (o : OpenRow) (is_open : IsOpen o) (keeps : Bool) (clear : Color) (previous : PreviousClear) where
+module _ (o : OpenRow) (is_open : IsOpen o) (keeps : Bool) (clear : Color) (previous : Option Color) where
   abbrev pub over : BatchRow
   over = batch_row o.row o.table keeps clear previous
 
@@ -128,7 +127,7 @@ module _ (o : OpenRow) (is_open : IsOpen o) (keeps : Bool) (clear : Color) (prev
     gives : PaintsLayer (paint_of (paint_onto o h choice) choice.plane) result left
     gives = subst (λ (out : PaintGiven). PaintsLayer out result left) (sym (paint_due_lem is_open holds choice as_held)) due
 
-    answered : paint_answer result.answer ≡ given mark
+    answered : given_or_refused result.answer ≡ given mark
     answered = due.answer ∙ accepted_mark n clip choice verdict
 
     abbrev held : Held
@@ -173,13 +172,13 @@ module _ (o : OpenRow) (is_open : IsOpen o) (keeps : Bool) (clear : Color) (prev
   -- ---- a tile
 
   -- what an answer tells of the verdict, and of what is held after it
-  refused_held : {m : ℕ} (a : WorkAnswer) (st : State) (h : Held) (q : Columns) (back : WorkLent) → work_answer a ≡ refused m → held_after a st h q back ≡ record { state = st; queue = h.queue; taken = h.taken }
-  refused_held (worked.Refused k) st h q back e = refl
-  refused_held (worked.Done d) st h q back e = absurd (let z : ◌≡◌ {A = ℕ} 0 1 = cc in omega arith)
+  refused_held : {m : ℕ} (a : Result TileDone Refusal) (st : State) (h : Held) (q : Columns) (back : WorkLent) → work_answer a ≡ refused m → held_after a st h q back ≡ record { state = st; queue = h.queue; taken = h.taken }
+  refused_held (Err k) st h q back e = refl
+  refused_held (Ok d) st h q back e = absurd (let z : ◌≡◌ {A = ℕ} 0 1 = cc in omega arith)
 
-  given_held : {t : TileAnswer} (a : WorkAnswer) (st : State) (h : Held) (q : Columns) (back : WorkLent) → work_answer a ≡ given t → held_after a st h q back ≡ record { state = st; queue = back.queue; taken = q }
-  given_held (worked.Refused k) st h q back e = absurd (let z : ◌≡◌ {A = ℕ} 0 1 = cc in omega arith)
-  given_held (worked.Done d) st h q back e = refl
+  given_held : {t : TileAnswer} (a : Result TileDone Refusal) (st : State) (h : Held) (q : Columns) (back : WorkLent) → work_answer a ≡ given t → held_after a st h q back ≡ record { state = st; queue = back.queue; taken = q }
+  given_held (Err k) st h q back e = absurd (let z : ◌≡◌ {A = ℕ} 0 1 = cc in omega arith)
+  given_held (Ok d) st h q back e = refl
 
   -- the work on the tile where the batch stands
   module _ (n : ℕ) (clip : Option ℕ) (h : Held) (s : BatchAt) (holds : Holds o (tiles_past n clip) h) (es : s.state ≡ h.state) (eq : s.lent.queue ≡ h.queue) where
@@ -283,16 +282,16 @@ module _ (o : OpenRow) (is_open : IsOpen o) (keeps : Bool) (clear : Color) (prev
     due_tile e =
         let below = unless (tag_out_of_range works.kept) 6 (list_verdict (table_on o) (layers_on o n)) in
         let first = passed (is_queue_short s.lent.other || is_list_short (own_list over)) 1 (unless (is_not_due o n s.tile) 2 below) (given_verdict e).0 in
-        (is_next (record { tile_y = 0; from = 0; to = o.to; next = o.from + n; left = 0; taken = 0; clip = option.none }) s.tile (passed (is_not_due o n s.tile) 2 below first.1).0).is_tile
+        (is_next (record { tile_y = 0; from = 0; to = o.to; next = o.from + n; left = 0; taken = 0; clip = option.None }) s.tile (passed (is_not_due o n s.tile) 2 below first.1).0).is_tile
 
     -- what the caller holds past the tile
     abbrev held_past : Held
     held_past = record { state = state_in told.state; queue = lent_back.queue; taken = s.lent.queue }
 
-    holds_past : {t : TileAnswer} → work_answer told.answer ≡ given t → Holds o (tiles_past (suc n) option.none) held_past
+    holds_past : {t : TileAnswer} → work_answer told.answer ≡ given t → Holds o (tiles_past (suc n) option.None) held_past
     holds_past e =
         let v = (given_verdict e).0 in
-        subst (λ (x : Held). Holds o (tiles_past (suc n) option.none) x) (given_held told.answer (state_in told.state) h s.lent.queue lent_back e)
+        subst (λ (x : Held). Holds o (tiles_past (suc n) option.None) x) (given_held told.answer (state_in told.state) h s.lent.queue lent_back e)
         (subst (λ (j : Judgement). Holds o (past_work j (tiles_past n clip)) (held_after told.answer (state_in told.state) h s.lent.queue lent_back)) v right_here.1)
 
   -- ---- tile after tile
@@ -354,7 +353,7 @@ module _ (o : OpenRow) (is_open : IsOpen o) (keeps : Bool) (clear : Color) (prev
           let turn = turn_is n clip h s holds es eq ∙ ap (λ (a : Answer TileAnswer). turn_by over a s (work_given_as w back)) ea in
           let free = leb-true (s.used + r.needed) r.planes (right (ltb s.worked r.tiles) (leb (s.used + r.needed) r.planes) room) in
           let here : (s.used + length (painted_by t back)) * 256 ≤ length s.lent.planes = let few = painted_few n clip h s holds es eq ea in omega (arith, few, free, roomy.long, roomy.needed) in
-          let painted = paintings (painted_by t back) n option.none (held_past n clip h s holds es eq) s.used s.lent.planes s.lent.painted (holds_past n clip h s holds es eq ea) here (painted_pass n clip h s holds es eq ea) in
+          let painted = paintings (painted_by t back) n option.None (held_past n clip h s holds es eq) s.used s.lent.planes s.lent.painted (holds_past n clip h s holds es eq ea) here (painted_pass n clip h s holds es eq ea) in
           let s' = (turn_by over (given t) s (work_given_as w back)).at in
           let rest = go (suc n) painted.clip painted.after s' painted.holds (sym painted.state_is) (sym painted.queue_is) (record { long = let same = painted.planes_long in omega (arith, same, roomy.long); needed = roomy.needed }) in
           let held = given_held w.answer (state_in w.state) h s.lent.queue back ea in

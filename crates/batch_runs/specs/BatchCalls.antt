@@ -2,10 +2,10 @@
 -- read from what the calls answered and left in lent memory, as a caller reads it. proofs/BatchTiles has that a batch in a run is such calls.
 use Rattle.std.specs.Prelude.{◌≡◌, ◌∷◌, ◌++◌, ◌+◌, ◌*◌}
 use Rattle.laws.specs.Prelude.{true, false, List, [], ℕ, zero, suc, leb, Float, ℤ, sets, refused, given}
+use Rattle.refusals.specs.Refusal.{given_or_refused}
 use Rattle.row_statements.specs.Lent.{Columns}
 use Rattle.row_statements.specs.State.{state_in}
 use Rattle.row_statements.specs.TileWork.{WorkLent, WorkGiven, TileAnswer, work_answer}
-use Rattle.row_statements.specs.Painting.{paint_answer}
 use Rattle.row_statements.specs.Due.{WorkChoice, PaintChoice}
 use Rattle.row_statements.specs.Run.{Event}
 use Rattle.row_statements.specs.declared.TileWorked.{TileWorked}
@@ -49,7 +49,7 @@ painted_as r back id mark p =
 pub data PaintCalls (tile : ℤ) (queue : Columns) : PlanesAt → List ℕ → List Event → PlanesAt → Type 0 where
   none : {p : PlanesAt} → PaintCalls tile queue p [] [] p
   next : {p q : PlanesAt} {id mark : ℕ} {ids : List ℕ} {r : Painted} {back : List Float} {es : List Event} →
-      paint_answer r.answer ≡ given mark →
+      given_or_refused r.answer ≡ given mark →
       PaintCalls tile queue (painted_as r back id mark p) ids es q →
       PaintCalls tile queue p (id ∷ ids) (Event.paint (paints_here tile queue p id) r back ∷ es) q
 

@@ -1,7 +1,7 @@
 -- A batch in a run of demand 3: called with the state, the row, the table and the carries that the caller holds after any calls, it stands for calls that
 -- go on with the run, and leaves what they leave, whatever it answers. So everything that the claim of row_statements says holds of each of them: it gives
 -- what is due of it, worked from the whole row. A refused batch is the first tile's refused call, and leaves everything as it was.
-use Rattle.std.specs.Prelude.{◌≡◌, ◌++◌}
+use Rattle.std.specs.Prelude.{◌≡◌, ◌++◌, Ok}
 use Rattle.laws.specs.Prelude.{List, ℕ, zero, suc}
 use Rattle.segment_rows.specs.Rows.{Words}
 use Rattle.row_statements.specs.Lent.{Columns}
@@ -10,7 +10,6 @@ use Rattle.row_statements.specs.Due.{OpenRow, at_first}
 use Rattle.row_statements.specs.Run.{open_row, held_first, Held, Event, Run}
 use Rattle.row_statements.specs.Claim.{AllRight}
 use Rattle.row_statements.specs.declared.RowState.{RowState}
-use Rattle.row_statements.specs.declared.Opened.TheVariants as opened
 use Rattle.batch_statements.specs.BatchLent.{BatchLent, room_in}
 use Rattle.batch_statements.specs.Batch.{BatchCall, batch_start, batch_of}
 use Rattle.batch_runs.specs.BatchCalls.{TileCalls}
@@ -45,7 +44,7 @@ abbrev pub BatchClaim : Type 0
 BatchClaim =
     (k : OpenCall) (lent back : Columns) (s : RowState) (es : List Event) (h : Held) (c : BatchCall) (m : BatchLent) →
     Words k.row →
-    OpensRow (open_of k lent) (opened.Row s) back →
+    OpensRow (open_of k lent) (Ok s) back →
     Run (open_row k) (held_first s back) es h →
     CalledIn (open_row k) h c m →
     BatchRight k es h c m

@@ -3,12 +3,12 @@
 -- layers that it mixes are noted. Every tile is told by what the public operations give (`work_of`, `paint_of`), each called with what the one before it left,
 -- so that a batch has no verdict of its own: it is refused where its first tile is, by that number, and nothing is worked or written then; else it is accepted,
 -- and tells why it ended. Where it calls nothing (no tile is asked for, none is left, or there is no room for one), it judges nothing.
-use Rattle.std.specs.Prelude.{◌≡◌, ◌∷◌, ◌+◌, ◌*◌}
+use Rattle.std.specs.Prelude.{◌≡◌, ◌∷◌, ◌+◌, ◌*◌, Option, Result, Ok, Err}
 use Rattle.laws.specs.Prelude.{Bool, true, false, not, cond, List, [], ℕ, zero, suc, leb, Float, ℤ, pos, length, replicate, sets}
 use Rattle.laws.specs.Prelude.{Answer, refused, given, plus}
+use Rattle.refusals.specs.declared.Refusal.{Refusal}
 use Rattle.refusals.specs.Refusal.{Judgement, pass, refuse, number_of}
 use Rattle.styling.specs.declared.Color.{Color}
-use Rattle.layer_workbench.specs.declared.PreviousClear.{PreviousClear}
 use Rattle.row_statements.specs.Lent.{Columns, ListColumns, LentTable}
 use Rattle.row_statements.specs.State.{State, state_in}
 use Rattle.row_statements.specs.TileWork.{WorkCall, WorkGiven, TileAnswer, work_call, work_lent, work_of}
@@ -16,8 +16,6 @@ use Rattle.row_statements.specs.Painting.{PaintGiven, paint_call, paint_of}
 use Rattle.row_lines.specs.Calls.{shown_by, painted_by}
 use Rattle.batch_statements.specs.BatchLent.{BatchLent, sided, room_in, has_room, kept_at, kept_over, tile_numbers, bottoms_over, plane_at, mixed_of, words_at, mixes_from}
 use Rattle.batch_statements.specs.declared.Batch as batch
-use Rattle.batch_statements.specs.declared.BatchAnswer as answer
-use Rattle.batch_statements.specs.declared.BatchAnswer.TheVariants as batch-answer
 use Rattle.batch_statements.specs.declared.End as end
 use Rattle.batch_statements.specs.declared.End.TheVariants as batch-end
 use Rattle.batch_statements.specs.declared.Room as room
@@ -28,9 +26,9 @@ pub record BatchRow : Type 0 where
   pub table : LentTable
   pub keeps : Bool
   pub clear : Color
-  pub previous : PreviousClear
+  pub previous : Option Color
 
-abbrev pub batch_row : List ℕ → LentTable → Bool → Color → PreviousClear → BatchRow
+abbrev pub batch_row : List ℕ → LentTable → Bool → Color → Option Color → BatchRow
 batch_row row table keeps clear previous = record { row = row; table = table; keeps = keeps; clear = clear; previous = previous }
 
 -- where it stands between two tiles: the state, the next tile, whether the first queue holds the carries, how many tiles are worked and planes used, and
@@ -192,9 +190,9 @@ end_in batch-end.RowEnd = row_end
 end_in batch-end.NoRoom = no_room
 end_in (batch-end.NextRefused r) = next_refused (number_of r)
 
-abbrev pub answer_in : answer.BatchAnswer → Answer BatchEnd
-answer_in (batch-answer.Refused r) = refused (number_of r)
-answer_in (batch-answer.Ended e) = given (end_in e)
+abbrev pub answer_in : Result end.End Refusal → Answer BatchEnd
+answer_in (Err r) = refused (number_of r)
+answer_in (Ok e) = given (end_in e)
 
 pub record GivesBatch (g : BatchGiven) (r : batch.Batch) (back : BatchLent) : Type 0 where
   pub state : state_in r.state ≡ g.at.state

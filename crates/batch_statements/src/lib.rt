@@ -14,13 +14,6 @@ pub enum End {
     NextRefused(Refusal),
 }
 
-// What a batch answers: a refusal, where nothing is worked and nothing written, or why it ended.
-#[derive(Clone, Copy)]
-pub enum BatchAnswer {
-    Refused(Refusal),
-    Ended(End),
-}
-
 // The state after a batch, how many tiles it worked, how many planes it used, whether the first of the two queues holds
 // the carries, and what it answers.
 #[derive(Clone, Copy)]
@@ -29,7 +22,7 @@ pub struct Batch {
     pub worked: usize,
     pub used: usize,
     pub first: bool,
-    pub answer: BatchAnswer,
+    pub answer: Result<End, Refusal>,
 }
 
 // The room that is lent: for so many tiles and so many planes, of which so many must be free before each tile.

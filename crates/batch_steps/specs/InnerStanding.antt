@@ -1,8 +1,7 @@
 -- Where the code of a batch stands between two tiles, whether it works another, and why it ends.
-use Rattle.std.specs.Prelude.{◌≡◌, ◌&&◌}
+use Rattle.std.specs.Prelude.{◌≡◌, ◌&&◌, Ok}
 use Rattle.laws.specs.Prelude.{Bool, true, false, cond, ℕ, ltb, leb}
 use Rattle.refusals.specs.Refusal.{Judgement, pass, refuse, judgement_in}
-use Rattle.refusals.specs.declared.Verdict.TheVariants.{Pass}
 use Rattle.row_statements.specs.State.{State, state_in}
 use Rattle.row_statements.specs.declared.RowState.{RowState}
 use Rattle.batch_statements.specs.BatchLent.{has_room}
@@ -13,7 +12,7 @@ use Rattle.batch_steps.specs.declared.Standing.{Standing}
 
 -- before the first tile
 abbrev pub starting : RowState → Standing
-starting s = record { state = s; worked = 0; used = 0; first = true; verdict = Pass }
+starting s = record { state = s; worked = 0; used = 0; first = true; verdict = (Ok tt) }
 
 -- ---- whether another tile is worked
 

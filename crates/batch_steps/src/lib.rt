@@ -2,16 +2,15 @@
 // what the batch answers.
 #![tactic(auto)]
 
-ghost use Rattle.std.specs.Prelude.{◌≡◌, true, not, cond, ◌+◌, ◌/◌, ◌<◌, ◌^◌, min, length};
+ghost use Rattle.std.specs.Prelude.{◌≡◌, Ok, Err, true, not, cond, ◌+◌, ◌/◌, ◌<◌, ◌^◌, min, length};
 ghost use Rattle.refusals.specs.Refusal.{judgement_in, number_of};
-ghost use Rattle.refusals.specs.declared.Verdict.TheVariants as verdict;
 ghost use Rattle.row_statements.specs.State.{state_in};
 ghost use Rattle.batch_statements.specs.BatchLent.{room_for, has_room};
 ghost use Rattle.batch_statements.specs.Batch.{next_refused, end_in, answer_in, answer_of};
 ghost use Rattle.batch_steps.specs.InnerStanding.{is_pass, goes_on, end_at, end_by, Ends};
 
-use batch_statements::{Batch, BatchAnswer, End, Room};
-use refusals::{Refusal, Verdict};
+use batch_statements::{Batch, End, Room};
+use refusals::Refusal;
 use row_statements::RowState;
 
 // Where a batch stands between two tiles: the state, how many tiles are worked and planes used, whether the first of the
@@ -22,7 +21,7 @@ pub struct Standing {
     pub worked: usize,
     pub used: usize,
     pub first: bool,
-    pub verdict: Verdict,
+    pub verdict: Result<(), Refusal>,
 }
 
 fn least(a: usize, b: usize) -> usize
@@ -68,22 +67,12 @@ fn has_room(room: Room, worked: usize, used: usize) -> bool
     (worked < room.tiles) & (used <= room.planes - room.needed)
 }
 
-fn is_pass(verdict: Verdict) -> bool
-    ensures { result ≡ is_pass (judgement_in verdict) }
-{
-    match verdict {
-        Verdict::Pass => true,
-        Verdict::Refuse(_) => false,
-    }
-}
-
 // Whether another tile is worked.
 pub fn goes_on(at: Standing, tiles: usize, room: Room) -> bool
     ensures { result ≡ goes_on at tiles room }
 {
     let state = at.state;
-    let verdict = at.verdict;
-    is_pass(verdict)
+    at.verdict.is_ok()
         & (at.worked < tiles)
         & (state.next < state.to)
         & has_room(room, at.worked, at.used)
@@ -103,23 +92,22 @@ fn end_of(state: RowState, worked: usize, tiles: usize) -> End
 }
 
 // A refusal of the first tile is the batch's own.
-fn refused_at(worked: usize, refusal: Refusal) -> BatchAnswer
+fn refused_at(worked: usize, refusal: Refusal) -> Result<End, Refusal>
     ensures { answer_in result ≡ answer_of worked (next_refused (number_of refusal)) }
 {
     if worked == 0 {
-        return BatchAnswer::Refused(refusal);
+        return Err(refusal);
     }
-    BatchAnswer::Ended(End::NextRefused(refusal))
+    Ok(End::NextRefused(refusal))
 }
 
-fn answer_of(at: Standing, tiles: usize) -> BatchAnswer
+fn answer_of(at: Standing, tiles: usize) -> Result<End, Refusal>
     ensures { answer_in result ≡ answer_of at.worked (end_by (judgement_in at.verdict) (state_in at.state) at.worked tiles) }
 {
     let state = at.state;
-    let verdict = at.verdict;
-    match verdict {
-        Verdict::Refuse(refusal) => refused_at(at.worked, refusal),
-        Verdict::Pass => BatchAnswer::Ended(end_of(state, at.worked, tiles)),
+    match at.verdict {
+        Err(refusal) => refused_at(at.worked, refusal),
+        Ok(()) => Ok(end_of(state, at.worked, tiles)),
     }
 }
 
@@ -139,7 +127,7 @@ pub fn ended(at: Standing, tiles: usize) -> Batch
 }
 
 // Before the first tile, by what it is judged.
-pub fn started(state: RowState, verdict: Verdict) -> Standing
+pub fn started(state: RowState, verdict: Result<(), Refusal>) -> Standing
     ensures { result ≡ record { state = state; worked = 0; used = 0; first = true; verdict = verdict } }
 {
     Standing {
@@ -147,7 +135,7 @@ pub fn started(state: RowState, verdict: Verdict) -> Standing
         worked: 0,
         used: 0,
         first: true,
-        verdict: verdict,
+        verdict,
     }
 }
 
@@ -158,7 +146,7 @@ pub fn refused(at: Standing, refusal: Refusal) -> Standing
       worked = at.worked;
       used = at.used;
       first = at.first;
-      verdict = verdict.Refuse refusal;
+      verdict = Err refusal;
     } }
 {
     let state = at.state;
@@ -167,7 +155,7 @@ pub fn refused(at: Standing, refusal: Refusal) -> Standing
         worked: at.worked,
         used: at.used,
         first: at.first,
-        verdict: Verdict::Refuse(refusal),
+        verdict: Err(refusal),
     }
 }
 
@@ -179,7 +167,7 @@ pub fn past(at: Standing, state: RowState, used: usize) -> Standing
       worked = at.worked + 1;
       used = used;
       first = not at.first;
-      verdict = verdict.Pass;
+      verdict = Ok tt;
     } }
 {
     Standing {
@@ -187,6 +175,6 @@ pub fn past(at: Standing, state: RowState, used: usize) -> Standing
         worked: at.worked + 1,
         used: used,
         first: !at.first,
-        verdict: Verdict::Pass,
+        verdict: Ok(()),
     }
 }

@@ -1,6 +1,6 @@
 -- P8 and P12, and the other cases of document 01 on cached tiles, as theorems over the definitions. Assumes nothing.
 use Rattle.std.specs.Prelude.{◌≡◌, ◌∷◌}
-use Rattle.laws.proofs.Prelude.{refl, true, false, List, [], some, none, ℕ, eq-eqb, refused, given}
+use Rattle.laws.proofs.Prelude.{refl, true, false, List, [], Some, None, ℕ, eq-eqb, refused, given}
 use Rattle.cached_tile.specs.declared.CachedTile.{CachedTile}
 use Rattle.cached_tile.specs.declared.kept.Kept.{Kept}
 use Rattle.cached_tile.specs.Tile.{layer_count_of, update_count, update_color}
@@ -14,12 +14,12 @@ abbrev pub kept_of : ℕ → List ℕ → List ℕ → Kept
 kept_of tags count color = record { given = true; tile = tile_of tags count color }
 
 -- P8: 16,777,217 is kept as 1
-pub P8_low_bits : (count color : List ℕ) → layer_count_of (update_count (tile_of 0 count color) (some 16777217)) ≡ some 1
+pub P8_low_bits : (count color : List ℕ) → layer_count_of (update_count (tile_of 0 count color) (Some 16777217)) ≡ Some 1
 P8_low_bits count color = refl
 
 -- P8: a cleared tag leaves its bytes
 module _ (t : CachedTile) (bytes : List ℕ) where
-  pub P8_count_left : (update_count t none).layer_count ≡ t.layer_count
+  pub P8_count_left : (update_count t None).layer_count ≡ t.layer_count
   P8_count_left = refl
 
   pub P8_color_left : (update_color t (record { given = false; bytes = bytes })).solid_color ≡ t.solid_color

@@ -1,7 +1,7 @@
 -- What is kept after an update, for every count, all bytes and every tag that no operation refuses: what was kept last is read back, what
 -- was dropped is not, the other of the two is left alone, and the tag stays in range. Assumes nothing.
 use Rattle.std.specs.Prelude.{◌≡◌, ◌&&◌, ◌%◌, ◌^◌, ◌≤◌}
-use Rattle.laws.proofs.Prelude.{refl, sym, ap, Bool, true, false, not, Bool·beq, List, some, none, ℕ, arith, leb-true}
+use Rattle.laws.proofs.Prelude.{refl, sym, ap, Bool, true, false, not, Bool·beq, List, Some, None, ℕ, arith, leb-true}
 use Rattle.laws.proofs.Prelude.{not-true, bit_and, leb, every_at}
 use lib.Bits.{bit_or}
 use Rattle.cached_tile.specs.declared.CachedTile.{CachedTile}
@@ -23,10 +23,10 @@ module _ (t : CachedTile) (h : t.tags ≤ 3) where
   each : (f : ℕ → Bool) → (f 3 && (f 2 && (f 1 && (f 0 && true)))) ≡ true → f t.tags ≡ true
   each f e = every_at 4 f e t.tags (omega arith)
 
-  pub count_kept : (n : ℕ) → layer_count_of (keep_count t n) ≡ some (n % 2 ^ 24)
-  count_kept n = rw (each (λ tags. keeps_count (bit_or tags 2)) refl) (ap some (low_bits n))
+  pub count_kept : (n : ℕ) → layer_count_of (keep_count t n) ≡ Some (n % 2 ^ 24)
+  count_kept n = rw (each (λ tags. keeps_count (bit_or tags 2)) refl) (ap Some (low_bits n))
 
-  pub count_dropped : layer_count_of (drop_count t) ≡ none
+  pub count_dropped : layer_count_of (drop_count t) ≡ None
   count_dropped = rw (not-true (keeps_count (bit_and t.tags 1)) (each (λ tags. not (keeps_count (bit_and tags 1))) refl)) refl
 
   pub color_kept : (bytes : List ℕ) → solid_color_of (keep_color t bytes) ≡ record { given = true; bytes = bytes }

@@ -2,14 +2,14 @@
 -- clears tag 1; solid is settled by a second call with the four display bytes, which says write or keep. .. Without a cached tile settling
 -- says write', and for refusal 6, 'cached tag above 3', which asks that a tile is given.
 use Rattle.std.specs.Prelude.{◌≡◌, ◌&&◌}
-use Rattle.laws.specs.Prelude.{Bool, true, false, cond, List, Option, none, ℕ, ltb, eqb, get_or, Answer, refused, given}
+use Rattle.laws.specs.Prelude.{Bool, true, false, cond, List, Option, None, ℕ, ltb, eqb, get_or, Answer, refused, given}
 use Rattle.cached_tile.specs.declared.CachedTile.{CachedTile}
 use Rattle.cached_tile.specs.declared.kept.Kept.{Kept}
 use Rattle.cached_tile.specs.declared.kept.Counted.{Counted}
 use Rattle.cached_tile.specs.declared.kept.Settlement.{Settlement}
 use Rattle.cached_tile.specs.declared.kept.Settlement.TheVariants.{Write, Keep, TagOutOfRange}
 use Rattle.cached_tile.specs.declared.kept.Settled.{Settled}
-use Rattle.cached_tile.specs.Tile.{empty_tile, count_in, layer_count_of, keeps_color, keep_count, keep_color, drop_color}
+use Rattle.cached_tile.specs.Tile.{empty_tile, layer_count_of, keeps_color, keep_count, keep_color, drop_color}
 
 abbrev pub no_tile : Kept
 no_tile = record { given = false; tile = empty_tile }
@@ -25,7 +25,7 @@ changed k t = cond k.given (record { given = true; tile = t }) k
 -- ---- tile work
 
 abbrev pub previous_count : Kept → Option ℕ
-previous_count k = cond k.given (layer_count_of k.tile) none
+previous_count k = cond k.given (layer_count_of k.tile) None
 
 abbrev pub counted : Kept → ℕ → Kept
 counted k n = changed k (keep_count k.tile n)
@@ -34,7 +34,7 @@ abbrev pub cleared : Kept → Kept
 cleared k = changed k (drop_color k.tile)
 
 pub record KeptCounted (k : Kept) (n : ℕ) (r : Counted) : Type 0 where
-  pub previous : count_in r.previous ≡ previous_count k
+  pub previous : r.previous ≡ previous_count k
   pub kept : r.kept ≡ counted k n
 
 -- ---- settling

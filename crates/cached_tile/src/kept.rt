@@ -6,7 +6,7 @@ ghost use Rattle.laws.specs.Answer.{given};
 ghost use Rattle.cached_tile.specs.Kept.{no_tile, tag_out_of_range, KeptCounted, cleared, settlement_of, keep_or_write};
 ghost use Rattle.cached_tile.specs.Kept.{same_bytes, TileSettled, KeptSettled};
 
-use crate::{CachedTile, LayerCount, SolidColor};
+use crate::{CachedTile, SolidColor};
 
 // Whether a cached tile is given, and the tile.
 #[derive(Clone, Copy)]
@@ -17,7 +17,7 @@ pub struct Kept {
 
 #[derive(Clone, Copy)]
 pub struct Counted {
-    pub previous: LayerCount,
+    pub previous: Option<u32>,
     pub kept: Kept,
 }
 
@@ -66,7 +66,7 @@ impl Kept {
     {
         let tile = self.tile;
         if self.given {
-            let updated = tile.update_layer_count(LayerCount::Count(layers));
+            let updated = tile.update_layer_count(Some(layers));
             let previous = updated.previous;
             let tile = updated.tile;
             let kept = Kept {
@@ -79,7 +79,7 @@ impl Kept {
             }
         } else {
             Counted {
-                previous: LayerCount::Absent,
+                previous: None,
                 kept: self,
             }
         }

@@ -5,7 +5,7 @@
 pub mod kept;
 
 ghost use Rattle.std.specs.Prelude.{◌≡◌, ◌<◌};
-ghost use Rattle.cached_tile.specs.Tile.{empty_tile, keeps_count, keeps_color, count_in, layer_count_of, solid_color_of};
+ghost use Rattle.cached_tile.specs.Tile.{empty_tile, keeps_count, keeps_color, layer_count_of, solid_color_of};
 ghost use Rattle.cached_tile.specs.Tile.{keep_count, drop_count, keep_color, drop_color, CountUpdated, ColorUpdated};
 
 #[derive(Clone, Copy)]
@@ -17,13 +17,6 @@ pub struct CachedTile {
     pub solid_color: [u8; 4],
 }
 
-// A layer count, where there is one.
-#[derive(Clone, Copy)]
-pub enum LayerCount {
-    Count(u32),
-    Absent,
-}
-
 // Four display bytes, where `given`. An enum can't hold an array.
 #[derive(Clone, Copy)]
 pub struct SolidColor {
@@ -33,7 +26,7 @@ pub struct SolidColor {
 
 #[derive(Clone, Copy)]
 pub struct UpdatedLayerCount {
-    pub previous: LayerCount,
+    pub previous: Option<u32>,
     pub tile: CachedTile,
 }
 
@@ -73,15 +66,15 @@ impl CachedTile {
         }
     }
 
-    pub fn layer_count(self) -> LayerCount
-        ensures { count_in result ≡ layer_count_of self }
+    pub fn layer_count(self) -> Option<u32>
+        ensures { result ≡ layer_count_of self }
     {
         let bytes = self.layer_count;
         let count = wide(bytes[0]) + 256 * wide(bytes[1]) + 65536 * wide(bytes[2]);
         if keeps_count(self.tags) {
-            LayerCount::Count(count)
+            Some(count)
         } else {
-            LayerCount::Absent
+            None
         }
     }
 
@@ -150,19 +143,19 @@ impl CachedTile {
         }
     }
 
-    pub fn update_layer_count(self, layer_count: LayerCount) -> UpdatedLayerCount
+    pub fn update_layer_count(self, layer_count: Option<u32>) -> UpdatedLayerCount
         ensures { CountUpdated self layer_count result }
     {
         let previous = self.layer_count();
         match layer_count {
-            LayerCount::Count(count) => {
+            Some(count) => {
                 let tile = self.keep_layer_count(count);
                 UpdatedLayerCount {
                     previous: previous,
                     tile: tile,
                 }
             }
-            LayerCount::Absent => {
+            None => {
                 let tile = self.drop_layer_count();
                 UpdatedLayerCount {
                     previous: previous,

@@ -6,9 +6,9 @@
 ghost use Rattle.std.specs.Prelude.{◌≡◌};
 ghost use Rattle.cached_tile.specs.Tile.{CountUpdated, ColorUpdated};
 
-use cached_tile::{CachedTile, LayerCount, SolidColor, UpdatedLayerCount, UpdatedSolidColor};
+use cached_tile::{CachedTile, SolidColor, UpdatedLayerCount, UpdatedSolidColor};
 
-pub fn update_layer_count(tile: &mut CachedTile, layer_count: LayerCount) -> LayerCount
+pub fn update_layer_count(tile: &mut CachedTile, layer_count: Option<u32>) -> Option<u32>
     ensures { CountUpdated tile.old layer_count (record { previous = result; tile = tile.new }) }
 {
     let updated = CachedTile::update_layer_count(*tile, layer_count);
@@ -25,7 +25,7 @@ pub fn update_solid_color(tile: &mut CachedTile, solid_color: SolidColor) -> Sol
 }
 
 // A tile of this function's own, lent to the update: plain parameters, for callers that lend no struct.
-pub fn count_in_place(tile: CachedTile, layer_count: LayerCount) -> UpdatedLayerCount
+pub fn count_in_place(tile: CachedTile, layer_count: Option<u32>) -> UpdatedLayerCount
     ensures { CountUpdated tile layer_count result }
 {
     let mut kept = tile;

@@ -1,7 +1,7 @@
 -- What the calls with carry records give, computed: P11's carry, and the mark and the plane of P7's draw. Assumes nothing.
 use Rattle.std.specs.Prelude.{◌≡◌, ◌∷◌}
-use Rattle.laws.proofs.Prelude.{refl, ap, ◌∙◌, true, List, [], some, ℕ, eqb, Float, pos, length, replicate, Answer, is_given, all, over}
-use Rattle.refusals.specs.Refusal.{Judgement, pass}
+use Rattle.laws.proofs.Prelude.{refl, ap, ◌∙◌, true, List, [], Some, ℕ, eqb, Float, pos, length, replicate, Answer, is_given, all, over}
+use Rattle.refusals.specs.Refusal.{Judgement, pass, given_or_refused}
 use Rattle.pixel_segment.specs.Field.{cover_of, tile_of}
 use Rattle.segment_rows.specs.Rows.{ascends_from}
 use Rattle.segment_rows.specs.Search.{halved, search_of, tile_part, layer_part}
@@ -21,7 +21,7 @@ use Rattle.row_statements.specs.State.{State}
 use Rattle.row_statements.specs.TileWork.{WorkLent, WorkGiven, listed_for, says_for, args_verdict}
 use Rattle.row_statements.specs.TileWork.{list_verdict, work_verdict, work_out, work_of, work_answer, GivesWork}
 use Rattle.row_statements.specs.Painting.{PaintGiven, layer_in, taken_for, part_for, paint_says, call_verdict}
-use Rattle.row_statements.specs.Painting.{own_verdict, paint_verdict, paint_out, paint_of, paint_answer, PaintsLayer}
+use Rattle.row_statements.specs.Painting.{own_verdict, paint_verdict, paint_out, paint_of, PaintsLayer}
 use Rattle.row_statements.specs.declared.TileWorked.{TileWorked}
 use Rattle.row_statements.specs.declared.Painted.{Painted}
 use Rattle.cases.specs.Answers.{is_word, is_a_half}
@@ -124,18 +124,18 @@ paint_passes : paint_verdict p7_call no_plane ≡ pass
 paint_passes = rw call_passes own_passes
 
 paint_is : paint_of p7_call no_plane
-    ≡ paint_out pass (paint_says (layers_of p7_call.table) (taken_for p7_call) (part_for p7_call) 3 (some 2)) p7_call.state no_plane
+    ≡ paint_out pass (paint_says (layers_of p7_call.table) (taken_for p7_call) (part_for p7_call) 3 (Some 2)) p7_call.state no_plane
 paint_is =
-    ap (λ (j : Judgement). paint_out j (paint_says (layers_of p7_call.table) (taken_for p7_call) (part_for p7_call) 3 (some 2)) p7_call.state no_plane) paint_passes
+    ap (λ (j : Judgement). paint_out j (paint_says (layers_of p7_call.table) (taken_for p7_call) (part_for p7_call) 3 (Some 2)) p7_call.state no_plane) paint_passes
 
-mark_is : mark_in (layers_of p7_call.table) (taken_for p7_call) (part_for p7_call) 3 (layer_in (layers_of p7_call.table) 3) (some 2) ≡ 0
+mark_is : mark_in (layers_of p7_call.table) (taken_for p7_call) (part_for p7_call) 3 (layer_in (layers_of p7_call.table) 3) (Some 2) ≡ 0
 mark_is = rw (table_is, taken_is, part_is, draw_is) cases.p7_mark
 
 plane_is : plane_in (taken_for p7_call) (part_for p7_call) 3 (layer_in (layers_of p7_call.table) 3) ≡ half_plane
 plane_is = rw (table_is, taken_is, part_is, draw_is) cases.p7_plane
 
 module _ {r : Painted} {back : List Float} (w : PaintsLayer (paint_of p7_call no_plane) r back) where
-  pub p7_mark : is_word (paint_answer r.answer) 0 ≡ true
+  pub p7_mark : is_word (given_or_refused r.answer) 0 ≡ true
   unfolding paint_out
   p7_mark =
       ap (λ (x : Answer ℕ). is_word x 0) w.answer

@@ -1,6 +1,6 @@
 -- The tile of P7 as it lies in lent memory: painting may be asked of it, and what painting then says is about its three layers. Assumes nothing.
 use Rattle.std.specs.Prelude.{◌≡◌, ◌∷◌, ◌≤◌}
-use Rattle.laws.proofs.Prelude.{refl, ◌∙◌, true, List, [], Option, some, none, ℕ, not-suc-le-zero, leb-true, Float, eq, of_bits, ℤ, pos}
+use Rattle.laws.proofs.Prelude.{refl, ◌∙◌, true, List, [], Option, Some, None, ℕ, not-suc-le-zero, leb-true, Float, eq, of_bits, ℤ, pos}
 use Rattle.laws.proofs.Prelude.{length, replicate, over, all, every_at}
 use Rattle.styling.specs.Ascending.{strictly_ascends_from}
 use Rattle.layer_table.specs.Lookup.{lookup}
@@ -12,7 +12,7 @@ use Rattle.segment_rows.specs.Search.{search_of, layer_part}
 use Rattle.cover_statements.specs.Carry.{is_light}
 use Rattle.cover_statements.specs.Entry.{cover_entry}
 use Rattle.queue_statements.specs.Queue.{queue_of, held_in}
-use Rattle.painter.specs.Clip.{clip_in, clip_after}
+use Rattle.painter.specs.Clip.{clip_after}
 use Rattle.painter.specs.Painting.{mark_in, plane_in, Paints}
 use Rattle.painter.specs.InnerReady.{Ready}
 use Rattle.painter.specs.declared.painting.Painting as painting
@@ -73,7 +73,7 @@ all_half = refl
 
 -- what is seen of a layer whose mark is 0 and whose plane is 0.5, by the table of cases
 pub record Unused (s : Seen) (clip : Option ℕ) : Type 0 where
-  pub clip_is : clip_in s.clip ≡ clip
+  pub clip_is : s.clip ≡ clip
   pub mark_is : s.mark ≡ 0
   pub half_is : s.is_half ≡ true
 
@@ -86,11 +86,11 @@ unused {l} layer {c} clip after {s} e k ends mark plane sees =
     }
 
 module _ {l : Layer} {c : Option ℕ} {s : Seen} where
-  pub first_seen : l ≡ first_clip → c ≡ none → Sees l c s → Unused s (some 2)
-  first_seen e k = unused first_clip none (some 2) e k cases.p7_first cases.p7_first_mark cases.p7_first_plane
+  pub first_seen : l ≡ first_clip → c ≡ None → Sees l c s → Unused s (Some 2)
+  first_seen e k = unused first_clip None (Some 2) e k cases.p7_first cases.p7_first_mark cases.p7_first_plane
 
-  pub second_seen : l ≡ second_clip → c ≡ some 2 → Sees l c s → Unused s (some 2)
-  second_seen e k = unused second_clip (some 2) (some 2) e k cases.p7_second cases.p7_second_mark cases.p7_second_plane
+  pub second_seen : l ≡ second_clip → c ≡ Some 2 → Sees l c s → Unused s (Some 2)
+  second_seen e k = unused second_clip (Some 2) (Some 2) e k cases.p7_second cases.p7_second_mark cases.p7_second_plane
 
-  pub draw_seen : l ≡ clipped_draw → c ≡ some 2 → Sees l c s → Unused s none
-  draw_seen e k = unused clipped_draw (some 2) none e k cases.p7_clip cases.p7_mark cases.p7_plane
+  pub draw_seen : l ≡ clipped_draw → c ≡ Some 2 → Sees l c s → Unused s None
+  draw_seen e k = unused clipped_draw (Some 2) None e k cases.p7_clip cases.p7_mark cases.p7_plane

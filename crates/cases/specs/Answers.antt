@@ -1,6 +1,6 @@
 -- How the program reads an answer.
 use Rattle.std.specs.Prelude.{◌∷◌}
-use Rattle.laws.specs.Prelude.{Bool, true, false, [], Option, some, none, ℕ, eqb, Float, eq, Answer, refused, given}
+use Rattle.laws.specs.Prelude.{Bool, true, false, [], Option, Some, None, ℕ, eqb, Float, eq, Answer, refused, given}
 use Rattle.cached_tile.specs.Kept.{Writing, write, keep}
 use Rattle.cached_tile.specs.declared.CachedTile.{CachedTile}
 use Rattle.segment_rows.specs.Search.{Place, found, absent}
@@ -24,12 +24,12 @@ is_absent_at (found i) place = false
 is_absent_at (absent i) place = eqb i place
 
 abbrev pub is_count : Option ℕ → ℕ → Bool
-is_count (some n) number = eqb n number
-is_count none number = false
+is_count (Some n) number = eqb n number
+is_count None number = false
 
 abbrev pub is_no_count : Option ℕ → Bool
-is_no_count (some n) = false
-is_no_count none = true
+is_no_count (Some n) = false
+is_no_count None = true
 
 abbrev pub is_writing : Writing → Bool
 is_writing write = true

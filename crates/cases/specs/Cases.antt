@@ -1,7 +1,7 @@
 -- The worked cases P1 to P12, one table in the scope's order, about the definitions that the contracts cite. proofs/Table proves it; the program
 -- runs the cases.
 use Rattle.std.specs.Prelude.{◌≡◌, ◌∷◌, ◌%◌, ◌^◌, ◌≤◌}
-use Rattle.laws.specs.Prelude.{true, false, List, [], some, none, ℕ, ℤ, pos, replicate, refused, given}
+use Rattle.laws.specs.Prelude.{true, false, List, [], Some, None, ℕ, ℤ, pos, replicate, refused, given}
 use Rattle.cached_tile.specs.Kept.{write, keep, settle_of, settled_kept}
 use Rattle.cached_tile.specs.Tile.{layer_count_of, update_count, update_color}
 use Rattle.cached_tile.specs.declared.CachedTile.{CachedTile}
@@ -58,27 +58,27 @@ pub record Cases : Type 0 where
   pub p6_thrice : is_full NonZero (sixteen (pos 48)) ≡ true
   pub p6_thrice_even_odd : is_full EvenOdd (sixteen (pos 48)) ≡ true
   -- P7. The first clip lives up to layer 2; the second begins while it lives, and keeps that last layer id; so no clip is alive at layer 3
-  pub p7_first : clip_after (Clip 1) 1 none ≡ some 2
-  pub p7_second : clip_after (Clip 5) 2 (some 2) ≡ some 2
-  pub p7_clip : alive_at (some 2) 3 ≡ none
+  pub p7_first : clip_after (Clip 1) 1 None ≡ Some 2
+  pub p7_second : clip_after (Clip 5) 2 (Some 2) ≡ Some 2
+  pub p7_clip : alive_at (Some 2) 3 ≡ None
   -- the pass expects a clip there: it masks off none of the three layers, nor does it free the draw of its clip
   pub p7_unmasked : (marks_of (items_in three_layers (layers_in three_carries []))).unmasked ≡ true ∷ true ∷ true ∷ []
   pub p7_unclipped : (marks_of (items_in three_layers (layers_in three_carries []))).unclipped ≡ false ∷ false ∷ false ∷ []
   pub p7_needs : needs_in three_layers three_carries [] clipped_draw.props.func 3 ≡ true
   -- both clips write their masks, and use no octet
   pub p7_first_plane : plane_in three_carries [] 1 first_clip ≡ half_plane
-  pub p7_first_mark : mark_in three_layers three_carries [] 1 first_clip none ≡ 0
+  pub p7_first_mark : mark_in three_layers three_carries [] 1 first_clip None ≡ 0
   pub p7_second_plane : plane_in three_carries [] 2 second_clip ≡ half_plane
-  pub p7_second_mark : mark_in three_layers three_carries [] 2 second_clip (some 2) ≡ 0
+  pub p7_second_mark : mark_in three_layers three_carries [] 2 second_clip (Some 2) ≡ 0
   -- the draw paints nothing: its mark is 0, while its plane gets its coverages
-  pub p7_mark : mark_in three_layers three_carries [] 3 clipped_draw (some 2) ≡ 0
+  pub p7_mark : mark_in three_layers three_carries [] 3 clipped_draw (Some 2) ≡ 0
   pub p7_plane : plane_in three_carries [] 3 clipped_draw ≡ half_plane
   -- P8. A count keeps its low 24 bits: 16,777,217 is kept as 1
-  pub p8_low_bits : (t : CachedTile) (n : ℕ) → t.tags ≤ 3 → layer_count_of (update_count t (some n)) ≡ some (n % 2 ^ 24)
-  pub p8_kept : (t : CachedTile) → t.tags ≤ 3 → layer_count_of (update_count t (some 16777217)) ≡ some 1
-  pub p8_bytes : (t : CachedTile) → (update_count t (some 16777217)).layer_count ≡ 1 ∷ 0 ∷ 0 ∷ []
+  pub p8_low_bits : (t : CachedTile) (n : ℕ) → t.tags ≤ 3 → layer_count_of (update_count t (Some n)) ≡ Some (n % 2 ^ 24)
+  pub p8_kept : (t : CachedTile) → t.tags ≤ 3 → layer_count_of (update_count t (Some 16777217)) ≡ Some 1
+  pub p8_bytes : (t : CachedTile) → (update_count t (Some 16777217)).layer_count ≡ 1 ∷ 0 ∷ 0 ∷ []
   -- a cleared tag leaves its bytes
-  pub p8_dropped : (t : CachedTile) → (update_count t none).layer_count ≡ t.layer_count
+  pub p8_dropped : (t : CachedTile) → (update_count t None).layer_count ≡ t.layer_count
   pub p8_color_dropped : (t : CachedTile) (bytes : List ℕ) → (update_color t (record { given = false; bytes = bytes })).solid_color ≡ t.solid_color
   -- P9. NonZero: 256 gives 0.5, and -512 gives 1
   pub p9_half : area_coverage NonZero (pos 256) ≡ half

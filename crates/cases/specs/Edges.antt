@@ -1,7 +1,7 @@
 -- Cases that the scope does not number: both sides of what packing and adding refuse, covers that are not full for one row, and what an update of
 -- a cached tile leaves. proofs/Table proves them.
 use Rattle.std.specs.Prelude.{◌≡◌, ◌∷◌}
-use Rattle.laws.specs.Prelude.{true, false, List, [], some, none, ℕ, pos, replicate, refused, given}
+use Rattle.laws.specs.Prelude.{true, false, List, [], Some, None, ℕ, pos, replicate, refused, given}
 use Rattle.cached_tile.specs.Tile.{layer_count_of, update_count, update_color}
 use Rattle.cover_statements.specs.Carry.{add_of}
 use Rattle.cover_statements.specs.Cover.{is_full}
@@ -24,8 +24,8 @@ pub record Edges : Type 0 where
   pub highest_full : is_full NonZero (sixteen (pos 127)) ≡ true
   pub lowest_full : is_full NonZero (sixteen (neg 128)) ≡ true
   -- a tile of tag 0 keeps no count; once it is counted its tag is 2
-  pub no_count : (count color : List ℕ) → layer_count_of (tagged_tile 0 count color) ≡ none
-  pub counted_tag : (count color : List ℕ) (n : ℕ) → (update_count (tagged_tile 0 count color) (some n)).tags ≡ 2
+  pub no_count : (count color : List ℕ) → layer_count_of (tagged_tile 0 count color) ≡ None
+  pub counted_tag : (count color : List ℕ) (n : ℕ) → (update_count (tagged_tile 0 count color) (Some n)).tags ≡ 2
   -- of a tile that keeps both, one is dropped: the other stays kept, and all bytes stay
-  pub count_dropped : (count color : List ℕ) → update_count (tagged_tile 3 count color) none ≡ tagged_tile 1 count color
+  pub count_dropped : (count color : List ℕ) → update_count (tagged_tile 3 count color) None ≡ tagged_tile 1 count color
   pub color_dropped : (count color bytes : List ℕ) → update_color (tagged_tile 3 count color) (record { given = false; bytes = bytes }) ≡ tagged_tile 2 count color

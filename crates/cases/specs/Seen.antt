@@ -3,7 +3,7 @@ use Rattle.std.specs.Prelude.{◌≡◌}
 use Rattle.laws.specs.Prelude.{true, List, [], Option, ℕ, Float, replicate, given, over, all}
 use Rattle.layer_table.specs.Lookup.{lookup}
 use Rattle.styling.specs.declared.Layer.{Layer}
-use Rattle.painter.specs.Clip.{clip_in, clip_after}
+use Rattle.painter.specs.Clip.{clip_after}
 use Rattle.painter.specs.Painting.{is_light_in, mark_in, plane_in}
 use Rattle.cases.specs.Answers.{is_a_half}
 use Rattle.cases.specs.Inputs.{three_layers, three_carries}
@@ -19,6 +19,6 @@ abbrev pub no_plane : List Float
 no_plane = replicate 256 uncovered
 
 pub record Sees (layer : Layer) (clip : Option ℕ) (r : Seen) : Type 0 where
-  pub clip_is : clip_in r.clip ≡ clip_after layer.props.func layer.id clip
+  pub clip_is : r.clip ≡ clip_after layer.props.func layer.id clip
   pub mark_is : r.mark ≡ mark_in three_layers three_carries [] layer.id layer clip
   pub half_is : r.is_half ≡ all is_a_half (over (plane_in three_carries [] layer.id layer) no_plane)

@@ -1,14 +1,13 @@
 // P7: a tile of three layers painted, a clip with span 1, a clip with span 5 and a clipped draw at 3.
 ghost use Rattle.std.specs.Prelude.{◌≡◌, true, [], ◌≤◌, length};
 ghost use Rattle.laws.specs.Lists.{all};
-ghost use Rattle.painter.specs.Clip.{clip_in};
 ghost use Rattle.painter.specs.Painting.{Paints};
 ghost use Rattle.cases.specs.Answers.{is_a_half};
 ghost use Rattle.cases.specs.Seen.{Known, Sees};
 ghost use Rattle.cases.specs.Inputs.{layer_with, clipped_draw, three_layers, three_carries};
 
+use painter::painting;
 use painter::painting::Painting;
-use painter::{Clip, painting};
 use styling::{BlendMode, Fill, FillRule, Func, Layer, Props, Style};
 
 fn layer_of(id: u32, func: Func) -> Layer
@@ -37,9 +36,9 @@ fn clipped_draw() -> Layer
 }
 
 // Paints a layer of the tile: each has half a cover in every row from the left, and no segment.
-fn paint(layer: Layer, clip: Clip, plane: &mut [f32]) -> Painting
+fn paint(layer: Layer, clip: Option<u32>, plane: &mut [f32]) -> Painting
     requires { (256 ≤ length plane.old) × Known layer }
-    ensures { Paints three_layers three_carries [] layer.id layer (clip_in clip)
+    ensures { Paints three_layers three_carries [] layer.id layer clip
         plane.old result plane.new }
 {
     let ids: [u32; 3] = [1, 2, 3];
@@ -69,27 +68,21 @@ fn paint(layer: Layer, clip: Clip, plane: &mut [f32]) -> Painting
 pub fn is_half(plane: &[f32]) -> bool
     ensures { result ≡ all is_a_half plane.now }
 {
-    let mut ok = true;
-    let mut i: usize = 0;
-    while i < plane.len() {
-        ok = ok & (plane[i] == 0.5);
-        i += 1;
-    }
-    ok
+    plane.iter().all(|coverage| *coverage == 0.5)
 }
 
 // What painting left: the painter's clip, the mark, and whether the plane is 0.5 throughout.
 #[derive(Clone, Copy)]
 pub struct Seen {
-    pub clip: Clip,
+    pub clip: Option<u32>,
     pub mark: u32,
     pub is_half: bool,
 }
 
 // Paints a layer of the tile into a plane of zeros.
-fn paint_anew(layer: Layer, clip: Clip) -> Seen
+fn paint_anew(layer: Layer, clip: Option<u32>) -> Seen
     requires { Known layer }
-    ensures { Sees layer (clip_in clip) result }
+    ensures { Sees layer clip result }
 {
     let mut plane = [0.0f32; 256];
     let painting = paint(layer, clip, &mut plane);
@@ -107,7 +100,7 @@ fn paint_anew(layer: Layer, clip: Clip) -> Seen
 pub fn p7() -> bool
     ensures { result ≡ true }
 {
-    let first = paint_anew(layer_of(1, Func::Clip(1)), Clip::Absent);
+    let first = paint_anew(layer_of(1, Func::Clip(1)), None);
     let first_clip = first.clip;
     let second = paint_anew(layer_of(2, Func::Clip(5)), first_clip);
     let second_clip = second.clip;

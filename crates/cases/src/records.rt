@@ -2,35 +2,34 @@
 // painting.
 ghost use Rattle.std.specs.Prelude.{◌≡◌, true, ◌∷◌, pos, replicate};
 ghost use Rattle.laws.specs.Answer.{is_given};
+ghost use Rattle.refusals.specs.Refusal.{given_or_refused};
 ghost use Rattle.row_statements.specs.TileWork.{work_answer};
-ghost use Rattle.row_statements.specs.Painting.{paint_answer};
 ghost use Rattle.cases.specs.Answers.{is_word};
 
 use crate::clips;
 use cached_tile::CachedTile;
 use cached_tile::kept::Kept;
 use cover::entry;
-use layer_workbench::PreviousClear;
-use painter::Clip;
-use row_statements::{PaintAnswer, RowState, WorkAnswer};
+use refusals::Refusal;
+use row_statements::{RowState, TileDone};
 use styling::Color;
 use tile_row_records::records;
 
-fn is_done(answer: WorkAnswer) -> bool
+fn is_done(answer: Result<TileDone, Refusal>) -> bool
     ensures { result ≡ is_given (work_answer answer) }
 {
     match answer {
-        WorkAnswer::Refused(_) => false,
-        WorkAnswer::Done(_) => true,
+        Err(_) => false,
+        Ok(_) => true,
     }
 }
 
-fn is_mark_0(answer: PaintAnswer) -> bool
-    ensures { result ≡ is_word (paint_answer answer) 0 }
+fn is_mark_0(answer: Result<u32, Refusal>) -> bool
+    ensures { result ≡ is_word (given_or_refused answer) 0 }
 {
     match answer {
-        PaintAnswer::Mark(mark) => mark == 0,
-        PaintAnswer::Refused(_) => false,
+        Ok(mark) => mark == 0,
+        Err(_) => false,
     }
 }
 
@@ -62,7 +61,7 @@ fn work_p11() -> Handed
         next: 2,
         left: 1,
         taken: 0,
-        clip: Clip::Absent,
+        clip: None,
     };
     let tile = CachedTile {
         tags: 0,
@@ -86,7 +85,7 @@ fn work_p11() -> Handed
             b: 0.0,
             a: 0.0,
         },
-        PreviousClear::Absent,
+        None,
         [5u32; 256],
         [16i8; 4096],
         &mut next_ids,
@@ -137,7 +136,7 @@ pub fn p7_painted() -> bool
         next: 1,
         left: 0,
         taken: 3,
-        clip: Clip::Until(2),
+        clip: Some(2),
     };
     let painted = records::paint_records(
         state,

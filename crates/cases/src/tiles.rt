@@ -1,27 +1,26 @@
 // P8 and P12: what a cached tile keeps, and settling; and the two updates of a tile that is lent.
 ghost use Rattle.std.specs.Prelude.{◌≡◌, true};
-ghost use Rattle.cached_tile.specs.Tile.{count_in};
 ghost use Rattle.cached_tile.specs.Kept.{settlement_of};
 ghost use Rattle.cases.specs.Answers.{is_count, is_no_count, is_write, is_keep, nothing_kept};
 
 use cached_tile::kept::{Kept, Settlement};
-use cached_tile::{CachedTile, LayerCount, SolidColor, kept};
+use cached_tile::{CachedTile, SolidColor, kept};
 
-fn is_count(count: LayerCount, number: u32) -> bool
-    ensures { result ≡ is_count (count_in count) number }
+fn is_count(count: Option<u32>, number: u32) -> bool
+    ensures { result ≡ is_count count number }
 {
     match count {
-        LayerCount::Count(n) => n == number,
-        LayerCount::Absent => false,
+        Some(n) => n == number,
+        None => false,
     }
 }
 
-fn is_no_count(count: LayerCount) -> bool
-    ensures { result ≡ is_no_count (count_in count) }
+fn is_no_count(count: Option<u32>) -> bool
+    ensures { result ≡ is_no_count count }
 {
     match count {
-        LayerCount::Count(_) => false,
-        LayerCount::Absent => true,
+        Some(_) => false,
+        None => true,
     }
 }
 
@@ -61,7 +60,7 @@ pub fn p8_kept() -> bool
     ensures { result ≡ true }
 {
     let tile = nothing_kept();
-    let updated = tile.update_layer_count(LayerCount::Count(16777217));
+    let updated = tile.update_layer_count(Some(16777217));
     let previous = updated.previous;
     let after = updated.tile;
     is_no_count(previous) & (after.tags == 2) & is_count(after.layer_count(), 1)
@@ -72,9 +71,9 @@ pub fn p8_dropped() -> bool
     ensures { result ≡ true }
 {
     let tile = nothing_kept();
-    let updated = tile.update_layer_count(LayerCount::Count(16777217));
+    let updated = tile.update_layer_count(Some(16777217));
     let counted = updated.tile;
-    let dropped = counted.update_layer_count(LayerCount::Absent);
+    let dropped = counted.update_layer_count(None);
     let after = dropped.tile;
     let bytes = after.layer_count;
     (after.tags == 0) & (bytes[0] == 1) & (bytes[1] == 0) & (bytes[2] == 0)
@@ -85,7 +84,7 @@ pub fn p8_in_place() -> bool
     ensures { result ≡ true }
 {
     let tile = nothing_kept();
-    let updated = cached_tile_lent::count_in_place(tile, LayerCount::Count(16777217));
+    let updated = cached_tile_lent::count_in_place(tile, Some(16777217));
     let previous = updated.previous;
     let after = updated.tile;
     is_no_count(previous) & (after.tags == 2) & is_count(after.layer_count(), 1)

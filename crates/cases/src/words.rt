@@ -4,45 +4,45 @@ ghost use Rattle.pixel_segment.specs.Pack.{packed_answer};
 ghost use Rattle.segment_rows.specs.Search.{place_in};
 ghost use Rattle.cases.specs.Answers.{is_word, is_refused, is_at, is_absent_at};
 
-use pixel_segment::{Packed, PixelSegment};
+use pixel_segment::PixelSegment;
+use refusals::Refusal;
 use segment_rows::search;
-use segment_rows::search::Found;
 
 // Whether packing gave the word.
-fn is_word(packed: Packed, word: u64) -> bool
+fn is_word(packed: Result<PixelSegment, Refusal>, word: u64) -> bool
     ensures { result ≡ is_word (packed_answer packed) word }
 {
     match packed {
-        Packed::Segment(s) => s.0 == word,
-        Packed::FieldOutOfRange => false,
+        Ok(s) => s.0 == word,
+        Err(_) => false,
     }
 }
 
 // Whether packing was refused.
-fn is_refused(packed: Packed) -> bool
+fn is_refused(packed: Result<PixelSegment, Refusal>) -> bool
     ensures { result ≡ is_refused (packed_answer packed) }
 {
     match packed {
-        Packed::Segment(_) => false,
-        Packed::FieldOutOfRange => true,
+        Ok(_) => false,
+        Err(_) => true,
     }
 }
 
-fn is_at(found: Found, place: usize) -> bool
+fn is_at(found: Result<usize, usize>, place: usize) -> bool
     ensures { result ≡ is_at (place_in found) place }
 {
     match found {
-        Found::At(i) => i == place,
-        Found::Absent(_) => false,
+        Ok(i) => i == place,
+        Err(_) => false,
     }
 }
 
-fn is_absent(found: Found, place: usize) -> bool
+fn is_absent(found: Result<usize, usize>, place: usize) -> bool
     ensures { result ≡ is_absent_at (place_in found) place }
 {
     match found {
-        Found::At(_) => false,
-        Found::Absent(i) => i == place,
+        Ok(_) => false,
+        Err(i) => i == place,
     }
 }
 

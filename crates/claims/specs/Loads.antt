@@ -1,12 +1,13 @@
 -- Loads that can be made again. Stands for W-204: the line that asks is read exactly as it prints and has at most 20 bytes, so that the first 21 bytes of an
 -- input decide; every load is read back and its row ascends; and no row of a load is refused but by 9. With the first draws and texts, worked.
 use Rattle.std.specs.Prelude.{◌≡◌, ◌∷◌, ◌≤◌, ◌<◌}
-use Rattle.laws.specs.Prelude.{Bool, true, false, not, List, [], some, none, ℕ, suc, tabulate, all}
+use Rattle.laws.specs.Prelude.{Bool, true, false, not, List, [], Some, None, ℕ, suc, tabulate, all}
 use Rattle.lines.specs.Bytes.{bytes}
 use Rattle.lines.specs.Text.{lines_text}
 use Rattle.job_text_statements.specs.Job.{segment_values}
 use Rattle.load_statements.specs.Draw.{draw_at}
-use Rattle.load_statements.specs.Load.{Asked, asked, slot_of, load_segment}
+use Rattle.load_statements.specs.declared.Asked.{Asked}
+use Rattle.load_statements.specs.Load.{asked, slot_of, load_segment}
 use Rattle.load_statements.specs.Input.{AskedInRange, Asks, ask}
 use Rattle.load_statements.specs.Length.{LinesShort, FrontDecides, AnswersFit}
 use Rattle.load_statements.specs.Made.{LoadMade}
@@ -18,7 +19,7 @@ segments a = lines_text (tabulate a.count (λ k. segment_values (load_segment a 
 
 -- whether a line asks for a load; the lines at the ends of the ranges, and lines that ask for none
 abbrev pub is_asked : List ℕ → Bool
-is_asked s = elim (ask s) [ some a ↦ true | none ↦ false ]
+is_asked s = elim (ask s) [ Some a ↦ true | None ↦ false ]
 
 abbrev pub good : List (List ℕ)
 good = bytes "0 1 1\n" ∷ bytes "4294967295 4095 512\n" ∷ []
@@ -55,8 +56,8 @@ pub record Loads : Type 0 where
   pub five : segments (asked 1 2 5) ≡ bytes "0 0 8 8 1 13 12\n0 3 0 8 1 20 2\n0 6 8 5 1 12 10\n1 1 7 1 1 27 13\n1 4 3 14 1 20 -2\n"
   pub greatest_seed : segments (asked 4294967295 1 3) ≡ bytes "0 0 5 7 1 24 11\n0 2 5 4 1 17 3\n0 5 2 11 1 5 9\n"
   -- the line that asks
-  pub ask_complete : (text : List ℕ) (a : Asked) → Asks text a → ask text ≡ some a
-  pub ask_sound : (text : List ℕ) (a : Asked) → ask text ≡ some a → Asks text a
+  pub ask_complete : (text : List ℕ) (a : Asked) → Asks text a → ask text ≡ Some a
+  pub ask_sound : (text : List ℕ) (a : Asked) → ask text ≡ Some a → Asks text a
   pub passes : all is_asked good ≡ true
   pub turned_down : all (λ s. not (is_asked s)) bad ≡ true
   pub lines_short : LinesShort

@@ -1,5 +1,5 @@
 -- The passes in document 01's own words, of the definitions that the contracts cite.
-use Rattle.std.specs.Prelude.{◌≡◌, ◌||◌, ◌<◌}
+use Rattle.std.specs.Prelude.{◌≡◌, ◌||◌, ◌<◌, Option, Some, None}
 use Rattle.laws.specs.Prelude.{List, [], map, true, not, Bool, false, ℕ}
 use Rattle.pass_statements.specs.declared.item.Item.{Item}
 use Rattle.pass_statements.specs.Rules.{ClipAt, is_followed, is_unmasked, is_ascending, DrawAt, is_under, latest_below, Alike, is_free, needs_clip, Over}
@@ -8,10 +8,8 @@ use Rattle.styling.specs.Style.{is_clipped_of}
 use Rattle.styling.specs.declared.Color.{Color}
 use Rattle.pass_statements.specs.Clips.{marks_of}
 use Rattle.pass_statements.specs.Decide.{passed_of, outcome_of, shown_of}
-use Rattle.pass_statements.specs.declared.unchanged.PreviousCount.{PreviousCount}
 use Rattle.pass_statements.specs.Unchanged.{is_kept}
 use Rattle.pass_statements.specs.Decision.{solid}
-use Rattle.pass_statements.specs.declared.unchanged.PreviousCount.TheVariants.{Absent, Kept}
 use Rattle.styling.specs.declared.Layer.{Layer}
 use Rattle.queue_statements.specs.Queue.{ids_in}
 use Rattle.tile_layers.specs.Listing.{Listed, incoming_of}
@@ -33,15 +31,15 @@ pub record PassesInWords : Type 0 where
   -- and so, where the second pass marks them alike, one outcome of both passes
   pub masked_passed : (items items' : List Item) → (clear : Color) (removed : Bool) → marks_of items ≡ marks_of items' →
       Alike (marks_of items).unmasked items items' → passed_of clear removed items ≡ passed_of clear removed items'
-  pub empty_solid : (clear : Color) → (unchanged : Bool) (previous : PreviousCount) → is_kept unchanged previous [] ≡ false →
+  pub empty_solid : (clear : Color) → (unchanged : Bool) (previous : Option ℕ) → is_kept unchanged previous [] ≡ false →
       (outcome_of clear unchanged previous []).decision ≡ solid clear 0
-  pub empty_new : (clear : Color) → (unchanged : Bool) → (outcome_of clear unchanged Absent []).decision ≡ solid clear 0
-  pub empty_counted : (clear : Color) → (unchanged : Bool) (n : ℕ) → (n ≡ 0 → ⊥) → (outcome_of clear unchanged (Kept n) []).decision ≡ solid clear 0
-  pub empty_recolored : (clear : Color) → (previous : PreviousCount) → (outcome_of clear false previous []).decision ≡ solid clear 0
+  pub empty_new : (clear : Color) → (unchanged : Bool) → (outcome_of clear unchanged None []).decision ≡ solid clear 0
+  pub empty_counted : (clear : Color) → (unchanged : Bool) (n : ℕ) → (n ≡ 0 → ⊥) → (outcome_of clear unchanged (Some n) []).decision ≡ solid clear 0
+  pub empty_recolored : (clear : Color) → (previous : Option ℕ) → (outcome_of clear false previous []).decision ≡ solid clear 0
   -- a clipped draw is drawn unclipped exactly where it needs no clip
   pub free_draw : (items : List Item) (ascending : is_ascending items ≡ true) → {i : ℕ} → DrawAt items i → is_clipped_of (item_at items i).func ≡ true →
       is_free items i ≡ not (needs_clip items (item_at items i).func (item_at items i).id)
-  pub covered : (items : List Item) (ascending : is_ascending items ≡ true) → (clear : Color) (unchanged : Bool) (previous : PreviousCount) (i : ℕ) →
+  pub covered : (items : List Item) (ascending : is_ascending items ≡ true) → (clear : Color) (unchanged : Bool) (previous : Option ℕ) (i : ℕ) →
       i < (outcome_of clear unchanged previous items).skipped →
       Over items (outcome_of clear unchanged previous items).unmasked i (outcome_of clear unchanged previous items).skipped
   -- the layers of a driven row's line are the shown ones: neither masked off nor skipped

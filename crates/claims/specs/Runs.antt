@@ -1,7 +1,7 @@
 -- Runs: after every accepted opening every list of choices is that of some run's calls, with the verdicts that are due; runs of works and paintings are
 -- runs of calls, by values and by numbers; the driver's lines are those of some run; a state written as numbers is read again. So the claims over runs
 -- are empty for no opening.
-use Rattle.std.specs.Prelude.{◌≡◌, ◌+◌, ◌≤◌}
+use Rattle.std.specs.Prelude.{◌≡◌, ◌+◌, ◌≤◌, Ok}
 use Rattle.laws.specs.Prelude.{List, [], map, ℕ, plus}
 use Rattle.segment_rows.specs.Rows.{Words}
 use Rattle.row_statements.specs.Lent.{Columns}
@@ -11,7 +11,6 @@ use Rattle.row_statements.specs.Due.{OpenRow, at_first}
 use Rattle.row_statements.specs.Run.{open_row, Held, held_first, Event, Run}
 use Rattle.row_statements.specs.Example.{Choice, choices_due, dues_of}
 use Rattle.row_statements.specs.declared.RowState.{RowState}
-use Rattle.row_statements.specs.declared.Opened.TheVariants as opened
 use Rattle.row_lines.specs.Calls.{LinesTold}
 use Rattle.listing_runs.specs.Run.{HeldList, HeldAll, held_with, RowCall, RowCalls, lists_past_all}
 use Rattle.listing_runs.specs.Example.{CallChoice, call_choices_due, call_dues_of}
@@ -33,12 +32,12 @@ pub record CallsOf (o : OpenRow) (h : HeldAll) (cs : List CallChoice) : Type 0 w
   pub dues : call_dues_of o at_first events ≡ call_choices_due o at_first cs
 
 pub record RunsExist : Type 0 where
-  pub runs : (c : OpenCall) (lent back : Columns) (s : RowState) → Words c.row → OpensRow (open_of c lent) (opened.Row s) back → (cs : List Choice) →
+  pub runs : (c : OpenCall) (lent back : Columns) (s : RowState) → Words c.row → OpensRow (open_of c lent) (Ok s) back → (cs : List Choice) →
       RunOf (open_row c) (held_first s back) cs
-  pub calls : (c : OpenCall) (lent back : Columns) (s : RowState) → Words c.row → OpensRow (open_of c lent) (opened.Row s) back →
+  pub calls : (c : OpenCall) (lent back : Columns) (s : RowState) → Words c.row → OpensRow (open_of c lent) (Ok s) back →
       (cs : List CallChoice) → CallsOf (open_row c) (held_with (held_first s back) []) cs
   -- the driver's lines are told by such a run
-  pub lines : (c : OpenCall) (lent back : Columns) (s : RowState) (k : ℕ) → Words c.row → OpensRow (open_of c lent) (opened.Row s) back →
+  pub lines : (c : OpenCall) (lent back : Columns) (s : RowState) (k : ℕ) → Words c.row → OpensRow (open_of c lent) (Ok s) back →
       plus c.from + k ≤ plus c.to → LinesTold c s back k
 
 pub record RunsAlike : Type 0 where

@@ -1,7 +1,7 @@
 -- The job text: what is read is exactly what prints so, and every word reads back as the text's numbers. Stands for document 01, 'The row program', and for
 -- W-203.
 use Rattle.std.specs.Prelude.{◌≡◌, ◌∷◌, ◌<◌, ◌≤◌, ◌+ℤ◌}
-use Rattle.laws.specs.Prelude.{some, List, [], true, ℕ, ℤ, pos, negsuc, length, get_or, plus, minus}
+use Rattle.laws.specs.Prelude.{Some, List, [], true, ℕ, ℤ, pos, negsuc, length, get_or, plus, minus}
 use Rattle.job_text_statements.specs.Job.{Job, WellFormed, render, Prints}
 use Rattle.job_text_statements.specs.Parse.{parse}
 use Rattle.job_lines.specs.declared.segment.SegmentLine.{SegmentLine}
@@ -13,9 +13,9 @@ use Rattle.pixel_segment.specs.Pack.{ReadsBack}
 use Rattle.pixel_segment.specs.Field.{cpu}
 
 pub record JobTexts : Type 0 where
-  pub complete : (j : Job) → WellFormed j → parse (render j) ≡ some j
+  pub complete : (j : Job) → WellFormed j → parse (render j) ≡ Some j
   -- a job that is read is well formed, and the text is its print
-  pub sound : (s : List ℕ) (j : Job) → parse s ≡ some j → Prints s j
+  pub sound : (s : List ℕ) (j : Job) → parse s ≡ Some j → Prints s j
   -- and the word reads back as the numbers of the text, i pixel rows down
   pub read_back : (s : SegmentLine) (ok : segment_rule s ≡ true) (ty : ℤ) (t : is_tile_y ty ≡ true) (i : ℕ) (h : i < plus s.rows) →
       ReadsBack cpu (segment_word ty s i) s.layer s.tile_x ty s.x (s.y +ℤ pos i) s.mult s.cover

@@ -1,5 +1,5 @@
 -- What a row says of its tiles, worked from the whole row: openings, carries, lists, planes. Stands for document 01, 'Working from the whole row'.
-use Rattle.std.specs.Prelude.{◌≡◌, ◌+◌, ◌<◌, ◌+ℤ◌}
+use Rattle.std.specs.Prelude.{◌≡◌, ◌+◌, ◌<◌, ◌+ℤ◌, Option}
 use Rattle.laws.specs.Prelude.{List, map, true, ℕ, suc, ℤ, pos, length, get_or, replicate, tabulate, modℤ, refused}
 use Rattle.cover_statements.specs.WholeRow.{left_cover, part_of, FromRow, row_plane}
 use Rattle.cover_statements.specs.Carry.{cover_in, carry_of}
@@ -22,7 +22,6 @@ use Rattle.layer_table.specs.Lookup.{lookup}
 use Rattle.pass_statements.specs.Covered.{item_at}
 use Rattle.row_carries.specs.Covering.{items_at, listed_id_at, CoveredUnder}
 use Rattle.styling.specs.declared.Color.{Color}
-use Rattle.layer_workbench.specs.declared.PreviousClear.{PreviousClear}
 use Rattle.layer_workbench.specs.Work.{outcome_in}
 use Rattle.cached_tile.specs.declared.kept.Kept as kept
 
@@ -78,6 +77,6 @@ pub record FromWholeRow : Type 0 where
       row_plane cpu 16 (rule_in table (listed_id_at table row from n p)) (suc (from + n))
       (listed_id_at table row from n p) row ≡ replicate 256 (coverage_of 512)
   pub covered_under : {ty : ℕ} {row : List ℕ} (r : InOrder ty row) (table : List Layer) (from : ℕ) →
-      (n : ℕ) (k : kept.Kept) (clear : Color) (previous : PreviousClear) (i : ℕ) →
+      (n : ℕ) (k : kept.Kept) (clear : Color) (previous : Option Color) (i : ℕ) →
       i < (outcome_in table k clear previous (layers_at table row from n)).skipped →
       CoveredUnder table row from n (outcome_in table k clear previous (layers_at table row from n)) i

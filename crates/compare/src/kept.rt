@@ -44,16 +44,14 @@ fn all_of(text: &[u8], start: Cursor, is_asking: bool) -> Cursor {
     let count = text::next(text, start.at);
     let mut at = count.at;
     let mut same = start.same;
-    let mut i: u64 = 0;
-    while i < count.value {
+    for _ in 0..count.value {
         let held = if is_asking {
             stays(text, at)
         } else {
             tiles::settle(text, at)
         };
         at = held.at;
-        same = same & held.same;
-        i += 1;
+        same &= held.same;
     }
     Cursor { at: at, same: same }
 }
@@ -88,26 +86,12 @@ pub fn history(
     colors: &mut [f32],
 ) -> Cursor {
     let frames = text::next(text, at);
-    let mut place = frames.at;
-    let mut same = true;
-    let mut i: u64 = 0;
-    while i < frames.value {
-        let held = frame(
-            text,
-            Cursor {
-                at: place,
-                same: same,
-            },
-            row,
-            layers,
-            colors,
-        );
-        place = held.at;
-        same = held.same;
-        i += 1;
+    let mut held = Cursor {
+        at: frames.at,
+        same: true,
+    };
+    for _ in 0..frames.value {
+        held = frame(text, held, row, layers, colors);
     }
-    Cursor {
-        at: place,
-        same: same,
-    }
+    held
 }

@@ -51,10 +51,6 @@ fn replay(
     }
 }
 
-fn one_if(same: bool) -> u64 {
-    if same { 1 } else { 0 }
-}
-
 // How many cases of a kind agree, and the place after them.
 #[derive(Clone, Copy)]
 struct Agreed {
@@ -74,12 +70,10 @@ fn replay_alone(text: &[u8], kind: u64, at: usize) -> Cursor {
 fn replay_all(text: &[u8], kind: u64, count: u64, at: usize) -> Agreed {
     let mut place = at;
     let mut same: u64 = 0;
-    let mut i: u64 = 0;
-    while i < count {
+    for _ in 0..count {
         let case = replay_alone(text, kind, place);
         place = case.at;
-        same = std::num::wrapping_add_u64(same, one_if(case.same));
-        i += 1;
+        same = same.wrapping_add(case.same as u64);
     }
     Agreed {
         at: place,
@@ -88,7 +82,7 @@ fn replay_all(text: &[u8], kind: u64, count: u64, at: usize) -> Agreed {
 }
 
 fn say(rt: &impl Print, name: &str, compared: u64, same: u64) -> io::Result<()> {
-    let differing = std::num::wrapping_sub_u64(compared, same);
+    let differing = compared.wrapping_sub(same);
     println!(rt; "{name}: {compared} compared, {differing} differ")
 }
 

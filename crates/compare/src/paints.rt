@@ -18,31 +18,14 @@ pub fn layers(
     covers: &[i8],
 ) -> Stand {
     let paintings = text::next(text, start.at);
-    let mut at = paintings.at;
-    let mut same = start.same;
-    let mut words = start.words;
-    let mut counts = start.counts;
-    let mut i: u64 = 0;
-    while i < paintings.value {
-        let stand = Stand {
-            at: at,
-            same: same,
-            words: words,
-            counts: counts,
-        };
-        let after = layer(text, stand, tile, row, table, colors, count, ids, covers);
-        at = after.at;
-        same = after.same;
-        words = after.words;
-        counts = after.counts;
-        i += 1;
+    let mut stand = Stand {
+        at: paintings.at,
+        ..start
+    };
+    for _ in 0..paintings.value {
+        stand = layer(text, stand, tile, row, table, colors, count, ids, covers);
     }
-    Stand {
-        at: at,
-        same: same,
-        words: words,
-        counts: counts,
-    }
+    stand
 }
 
 fn layer(

@@ -103,24 +103,15 @@ fn tiles_in(
     covers: &mut [i8],
 ) -> Cursor {
     let tiles = text::next(text, start.at);
-    let mut at = tiles.at;
-    let mut same = start.same;
-    let mut words = start.words;
-    let mut counts = start.counts;
-    let mut i: u64 = 0;
-    while i < tiles.value {
-        let stand = Stand {
-            at: at,
-            same: same,
-            words: words,
-            counts: counts,
-        };
-        let after = works::tile(text, stand, row, layers, colors, count, ids, covers);
-        at = after.at;
-        same = after.same;
-        words = after.words;
-        counts = after.counts;
-        i += 1;
+    let mut stand = Stand {
+        at: tiles.at,
+        ..start
+    };
+    for _ in 0..tiles.value {
+        stand = works::tile(text, stand, row, layers, colors, count, ids, covers);
     }
-    Cursor { at: at, same: same }
+    Cursor {
+        at: stand.at,
+        same: stand.same,
+    }
 }

@@ -31,8 +31,7 @@ pub fn raised(load: u16, cover: i8) -> u16
     requires { load ≤ 128 }
     ensures { result ≡ min (load + nat_abs cover) 128 }
 {
-    let sum = load + weight::cover_magnitude(cover);
-    if sum < 128 { sum } else { 128 }
+    (load + weight::cover_magnitude(cover)).min(128)
 }
 
 // The absolute covers of each pixel row, in one pass over the segments.
@@ -41,13 +40,11 @@ fn add_loads(part: &[u64], incoming: [u16; 16]) -> [u16; 16]
     ensures { result ≡ loads_of cpu 16 incoming part.now }
 {
     let mut loads = incoming;
-    let mut i = 0;
-    while i < part.len() {
-        let segment = PixelSegment(part[i]);
+    for word in part {
+        let segment = PixelSegment(*word);
         let y = segment.local_y() as usize;
         let load = raised(loads[y], segment.cover());
         loads[y] = load;
-        i += 1;
     }
     loads
 }
@@ -76,9 +73,8 @@ fn sum_judged(part: &[u64], incoming: [u16; 16], cover: Cover) -> Carried
 {
     let mut loads = incoming;
     let mut covers = cover.covers;
-    let mut i = 0;
-    while i < part.len() {
-        let segment = PixelSegment(part[i]);
+    for word in part {
+        let segment = PixelSegment(*word);
         let y = segment.local_y() as usize;
         let own = segment.cover();
         let before = loads[y];
@@ -90,8 +86,7 @@ fn sum_judged(part: &[u64], incoming: [u16; 16], cover: Cover) -> Carried
             };
         }
         loads[y] = load;
-        covers[y] = covers[y] + own;
-        i += 1;
+        covers[y] += own;
     }
     let sum = Cover { covers };
     Carried {

@@ -11,11 +11,7 @@ pub fn read_cover(covers: &[i8], place: usize) -> Cover
 {
     let start = place * 16;
     let mut entry = [0i8; 16];
-    let mut y = 0;
-    while y < 16 {
-        entry[y] = covers[start + y];
-        y += 1;
-    }
+    entry.copy_from_slice(&covers[start..start + 16]);
     Cover { covers: entry }
 }
 
@@ -26,9 +22,5 @@ pub fn write_cover(covers: &mut [i8], place: usize, cover: Cover)
 {
     let entry = cover.covers;
     let start = place * 16;
-    let mut y = 0;
-    while y < 16 {
-        covers[start + y] = entry[y];
-        y += 1;
-    }
+    covers[start..start + 16].copy_from_slice(&entry);
 }

@@ -30,7 +30,7 @@ pub fn is_row_empty(cover: i8, rule: FillRule) -> bool
 fn filled_at(cover: i8, rule: FillRule) -> u16
     ensures { (result ≡ cond (empty_at rule cover) 0 1) × (result ≤ 1) }
 {
-    if is_row_empty(cover, rule) { 0 } else { 1 }
+    !is_row_empty(cover, rule) as u16
 }
 
 // Whether it is full by the rule: 16 or more either way for NonZero, an odd multiple of 16 for EvenOdd.

@@ -11,10 +11,8 @@ pub fn magnitudes(covers: &[i8], loads: &mut [u16])
     requires { loads.old ≡ replicate (length covers.now) 0 }
     ensures { Magnitudes covers.now loads.new }
 {
-    let mut y = 0;
-    while y < covers.len() {
-        loads[y] = weight::cover_magnitude(covers[y]);
-        y += 1;
+    for (y, cover) in covers.iter().enumerate() {
+        loads[y] = weight::cover_magnitude(*cover);
     }
 }
 
@@ -24,10 +22,8 @@ pub fn are_light(loads: &[u16]) -> bool
     ensures { result ≡ all_light loads.now }
 {
     let mut light: u16 = 0;
-    let mut y = 0;
-    while y < loads.len() {
-        light += (loads[y] <= 127) as u16;
-        y += 1;
+    for load in loads {
+        light += (*load <= 127) as u16;
     }
     light as usize == loads.len()
 }
@@ -38,10 +34,8 @@ pub fn are_empty(covers: &[i8], rule: FillRule) -> bool
     ensures { result ≡ is_empty rule covers.now }
 {
     let mut filled: u16 = 0;
-    let mut y = 0;
-    while y < covers.len() {
-        filled += crate::filled_at(covers[y], rule);
-        y += 1;
+    for cover in covers {
+        filled += crate::filled_at(*cover, rule);
     }
     filled == 0
 }
@@ -50,10 +44,8 @@ pub fn are_full(covers: &[i8], rule: FillRule) -> bool
     ensures { result ≡ is_full rule covers.now }
 {
     let mut ok = true;
-    let mut y = 0;
-    while y < covers.len() {
-        ok = ok & crate::is_row_full(covers[y], rule);
-        y += 1;
+    for cover in covers {
+        ok &= crate::is_row_full(*cover, rule);
     }
     ok
 }

@@ -40,14 +40,12 @@ fn add_bounds(
     ensures { Accumulated cpu 16 (chosen cpu part.now (bound_at side bounds.now))
         areas.new covers.new }
 {
-    let mut i = 0;
-    while i < part.len() {
-        let segment = PixelSegment(part[i]);
+    for (i, word) in part.iter().enumerate() {
+        let segment = PixelSegment(*word);
         let cover = bound_at(bounds, side, i);
         let k = area::cell(segment);
-        areas[k] = areas[k] + double_area(segment, cover);
-        covers[k] = covers[k] + cover;
-        i += 1;
+        areas[k] += double_area(segment, cover);
+        covers[k] += cover;
     }
 }
 

@@ -1,24 +1,12 @@
 // The least and the greatest weight of all whole numbers from a to b, by each rule: the ends tell them, and whether a
 // number of weight 0 or 512 lies in between.
-ghost use Rattle.std.specs.Prelude.{◌≡◌, true, ◌≤◌, ◌<◌, min, max, pos, ◌+ℤ◌};
+ghost use Rattle.std.specs.Prelude.{◌≡◌, true, ◌≤◌, ◌<◌, pos, ◌+ℤ◌};
 ghost use Rattle.std.specs.Int.Signed.{le_z};
 ghost use Rattle.laws.specs.Integer.{modℤ};
 ghost use Rattle.weight_table.specs.Rest.{curve};
 ghost use Rattle.styling.specs.declared.FillRule.TheVariants.{NonZero, EvenOdd};
 ghost use Rattle.cover_bounds_statements.specs.Interval.{distance, least_weight, greatest_weight};
 ghost use Rattle.cover_bounds_statements.specs.InnerEnds.{has_zero, has_multiple};
-
-fn lesser(a: u16, b: u16) -> u16
-    ensures { result ≡ min a b }
-{
-    if a < b { a } else { b }
-}
-
-fn greater(a: u16, b: u16) -> u16
-    ensures { result ≡ max a b }
-{
-    if a < b { b } else { a }
-}
 
 // Whether 0 lies between the ends.
 fn has_zero(a: i16, b: i16) -> bool
@@ -39,7 +27,7 @@ fn distance(a: i16, b: i16) -> u32
     requires { le_z a b ≡ true }
     ensures { (result ≡ distance a b) × (result ≤ 65535) }
 {
-    (b as i32 - a as i32) as u32
+    b.abs_diff(a) as u32
 }
 
 // Whether some number from a to b is a multiple of 1,024 once `shift` is added: the first one is, or the next multiple
@@ -59,7 +47,7 @@ pub fn least_non_zero(a: i16, b: i16) -> u16
     if has_zero(a, b) {
         0
     } else {
-        lesser(weight::non_zero(a), weight::non_zero(b))
+        weight::non_zero(a).min(weight::non_zero(b))
     }
 }
 
@@ -67,7 +55,7 @@ pub fn greatest_non_zero(a: i16, b: i16) -> u16
     requires { le_z a b ≡ true }
     ensures { result ≡ greatest_weight NonZero a b }
 {
-    greater(weight::non_zero(a), weight::non_zero(b))
+    weight::non_zero(a).max(weight::non_zero(b))
 }
 
 pub fn least_even_odd(weights: &[u16; 1024], a: i16, b: i16) -> u16
@@ -77,10 +65,7 @@ pub fn least_even_odd(weights: &[u16; 1024], a: i16, b: i16) -> u16
     if has_multiple(0, a, b) {
         0
     } else {
-        lesser(
-            weight::even_odd_in(weights, a),
-            weight::even_odd_in(weights, b),
-        )
+        weight::even_odd_in(weights, a).min(weight::even_odd_in(weights, b))
     }
 }
 
@@ -92,9 +77,6 @@ pub fn greatest_even_odd(weights: &[u16; 1024], a: i16, b: i16) -> u16
     if has_multiple(512, a, b) {
         512
     } else {
-        greater(
-            weight::even_odd_in(weights, a),
-            weight::even_odd_in(weights, b),
-        )
+        weight::even_odd_in(weights, a).max(weight::even_odd_in(weights, b))
     }
 }

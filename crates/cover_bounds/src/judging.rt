@@ -13,7 +13,7 @@ ghost use Rattle.cover_bounds_statements.specs.Within.{lacks_room, is_cover, is_
 use crate::area;
 use cover::{Cover, carry};
 use pixel_segment::PixelSegment;
-use refusals::{Refusal, Verdict};
+use refusals::Refusal;
 
 // Number 1.
 fn lacks_room(
@@ -67,10 +67,8 @@ fn are_bounded(bounds: &[i8], count: usize) -> bool
     ensures { result ≡ are_bounded count bounds.now }
 {
     let mut ok = true;
-    let mut i = 0;
-    while i < count {
-        ok = ok & is_bounded(area::bound_at(bounds, 0, i), area::bound_at(bounds, 1, i));
-        i += 1;
+    for i in 0..count {
+        ok &= is_bounded(area::bound_at(bounds, 0, i), area::bound_at(bounds, 1, i));
     }
     ok
 }
@@ -82,10 +80,8 @@ fn is_carry_bounded(low: Cover, high: Cover) -> bool
     let lows = low.covers;
     let highs = high.covers;
     let mut ok = true;
-    let mut y = 0;
-    while y < 16 {
-        ok = ok & is_at_most(lows[y], highs[y]);
-        y += 1;
+    for y in 0..16 {
+        ok &= is_at_most(lows[y], highs[y]);
     }
     ok
 }
@@ -108,10 +104,8 @@ fn heavier_carry(low: Cover, high: Cover) -> [i8; 16]
     let lows = low.covers;
     let highs = high.covers;
     let mut covers = [0i8; 16];
-    let mut y = 0;
-    while y < 16 {
+    for y in 0..16 {
         covers[y] = heavier(lows[y], highs[y]);
-        y += 1;
     }
     covers
 }
@@ -124,13 +118,10 @@ fn add_heavier(part: &[u64], bounds: &[i8], incoming: [u16; 16]) -> [u16; 16]
         (λ i. heavier (bound_at 0 bounds.now i) (bound_at 1 bounds.now i))) }
 {
     let mut loads = incoming;
-    let mut i = 0;
-    while i < part.len() {
-        let y = PixelSegment(part[i]).local_y() as usize;
+    for (i, word) in part.iter().enumerate() {
+        let y = PixelSegment(*word).local_y() as usize;
         let cover = heavier(area::bound_at(bounds, 0, i), area::bound_at(bounds, 1, i));
-        let load = carry::raised(loads[y], cover);
-        loads[y] = load;
-        i += 1;
+        loads[y] = carry::raised(loads[y], cover);
     }
     loads
 }
@@ -160,7 +151,7 @@ pub fn judge_bounds(
     greatest_non_zero: &[u16],
     least_even_odd: &[u16],
     greatest_even_odd: &[u16],
-) -> Verdict
+) -> Result<(), Refusal>
     ensures { judgement_in result ≡ bounds_verdict
         (bounds_call layer_id tile_x tile_y part.now bounds.now low.covers high.covers)
         (bound_planes lowest.now highest.now
@@ -177,16 +168,16 @@ pub fn judge_bounds(
         least_even_odd,
         greatest_even_odd,
     ) {
-        return Verdict::Refuse(Refusal::Room);
+        return Err(Refusal::Room);
     }
     if !segment_judging::are_of(layer_id, tile_x, tile_y, part) {
-        return Verdict::Refuse(Refusal::Row);
+        return Err(Refusal::Row);
     }
     if !(are_bounded(bounds, part.len()) & is_carry_bounded(low, high)) {
-        return Verdict::Refuse(Refusal::Bounds);
+        return Err(Refusal::Bounds);
     }
     if !is_light_within(part, bounds, low, high) {
-        return Verdict::Refuse(Refusal::Covers);
+        return Err(Refusal::Covers);
     }
-    Verdict::Pass
+    Ok(())
 }

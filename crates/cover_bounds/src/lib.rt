@@ -11,7 +11,7 @@ ghost use Rattle.cover_bounds_statements.specs.Within.{bounds_call, bound_planes
 ghost use Rattle.cover_bounds_statements.specs.Part.{BoundsPart};
 
 use cover::Cover;
-use refusals::Verdict;
+use refusals::Refusal;
 
 // The planes of a part whose covers lie within `bounds`, two bytes a segment, from a carry between `low` and `high`; or
 // a refusal, which leaves them as they were.
@@ -29,7 +29,7 @@ pub fn bound_part(
     greatest_non_zero: &mut [u16],
     least_even_odd: &mut [u16],
     greatest_even_odd: &mut [u16],
-) -> Verdict
+) -> Result<(), Refusal>
     ensures { BoundsPart
         (bounds_call layer_id tile_x tile_y part.now bounds.now low.covers high.covers)
         (bound_planes lowest.old highest.old
@@ -40,7 +40,7 @@ pub fn bound_part(
         least_non_zero.new greatest_non_zero.new
         least_even_odd.new greatest_even_odd.new) }
 {
-    match judging::judge_bounds(
+    judging::judge_bounds(
         layer_id,
         tile_x,
         tile_y,
@@ -54,24 +54,20 @@ pub fn bound_part(
         greatest_non_zero,
         least_even_odd,
         greatest_even_odd,
-    ) {
-        Verdict::Refuse(refusal) => Verdict::Refuse(refusal),
-        Verdict::Pass => {
-            let mut lows = [0i16; 256];
-            let mut highs = [0i16; 256];
-            area::sum_bounds(part, bounds, 0, low, &mut lows);
-            area::sum_bounds(part, bounds, 1, high, &mut highs);
-            planes::write_planes(
-                &lows,
-                &highs,
-                lowest,
-                highest,
-                least_non_zero,
-                greatest_non_zero,
-                least_even_odd,
-                greatest_even_odd,
-            );
-            Verdict::Pass
-        },
-    }
+    )?;
+    let mut lows = [0i16; 256];
+    let mut highs = [0i16; 256];
+    area::sum_bounds(part, bounds, 0, low, &mut lows);
+    area::sum_bounds(part, bounds, 1, high, &mut highs);
+    planes::write_planes(
+        &lows,
+        &highs,
+        lowest,
+        highest,
+        least_non_zero,
+        greatest_non_zero,
+        least_even_odd,
+        greatest_even_odd,
+    );
+    Ok(())
 }

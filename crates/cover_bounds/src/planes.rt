@@ -21,10 +21,8 @@ fn write_areas(areas: &[i16; 256], plane: &mut [i16])
     requires { 256 ≤ length plane.old }
     ensures { plane.new ≡ over (in_places 16 (area_in areas.now)) plane.old }
 {
-    let mut place = 0;
-    while place < 256 {
+    for place in 0..256 {
         plane[place] = areas[cell(place)];
-        place += 1;
     }
 }
 
@@ -33,12 +31,10 @@ fn write_non_zero(lows: &[i16; 256], highs: &[i16; 256], least: &mut [u16], grea
     ensures { WeightsWritten NonZero lows.now highs.now
         least.old greatest.old least.new greatest.new }
 {
-    let mut place = 0;
-    while place < 256 {
+    for place in 0..256 {
         let k = cell(place);
         least[place] = interval::least_non_zero(lows[k], highs[k]);
         greatest[place] = interval::greatest_non_zero(lows[k], highs[k]);
-        place += 1;
     }
 }
 
@@ -54,12 +50,10 @@ fn write_even_odd(
     ensures { WeightsWritten EvenOdd lows.now highs.now
         least.old greatest.old least.new greatest.new }
 {
-    let mut place = 0;
-    while place < 256 {
+    for place in 0..256 {
         let k = cell(place);
         least[place] = interval::least_even_odd(weights, lows[k], highs[k]);
         greatest[place] = interval::greatest_even_odd(weights, lows[k], highs[k]);
-        place += 1;
     }
 }
 

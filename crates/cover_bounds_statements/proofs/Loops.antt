@@ -1,7 +1,7 @@
 -- The loops of the code, as laws over plain lists: a test of every index, a list given by its places that is written at the front of a lent one, and
 -- the cells of chosen words summed up. Assumes nothing.
 use Rattle.std.specs.Prelude.{◌≡◌, ◌&&◌, ◌+◌, ◌*◌, ◌≤◌, ◌<◌, ◌+ℤ◌}
-use Rattle.laws.proofs.Prelude.{refl, sym, ap, ap₂, ◌∙◌, Bool, true, List, ℕ, add-one, arith, eq-eqb, ℤ, nat_abs}
+use Rattle.laws.proofs.Prelude.{refl, sym, ap, ap₂, ◌∙◌, Bool, List, ℕ, add-one, arith, eq-eqb, ℤ, nat_abs}
 use Rattle.laws.proofs.Prelude.{length, get_or, set, length-set, replicate, length-replicate, tabulate, every, over, filled, filled_more, filled_all}
 use Rattle.laws.proofs.Prelude.{length_tabulate, get_d_tabulate, sum_step}
 use mathlib.Core.Bool.{and_comm}
@@ -10,7 +10,7 @@ use Rattle.cover_statements.specs.Carry.{in_row, abs_cover, load_in}
 use Rattle.cover_statements.specs.InnerCell.{cell_of, no_cells, Accumulated}
 use Rattle.cover_statements.specs.Cover.{cover_at}
 use Rattle.cover_statements.proofs.Areas.{area_weight}
-use Rattle.cover_statements.proofs.Filled.{filled_whole, get_d_default}
+use Rattle.cover_statements.proofs.Filled.{get_d_default}
 use Rattle.cover_statements.proofs.Judging.{Loaded, Summed, load_start, load_next, sum_zeros, sum_fits, sum_next, sum_whole}
 
 -- ---- a test of every index, with no early exit: at i, whether those before it pass
@@ -20,9 +20,6 @@ pub record Passing (n : ℕ) (f : ℕ → Bool) (i : ℕ) (ok : Bool) : Type 0 w
   pub same : ok ≡ every i f
 
 module _ {n : ℕ} {f : ℕ → Bool} where
-  pub pass_start : Passing n f 0 true
-  pass_start = record { reached = omega arith; same = refl }
-
   pub pass_next : {i : ℕ} {ok t : Bool} → Passing n f i ok → i < n → t ≡ f i → Passing n f (i + 1) (ok && t)
   pass_next {i} {ok} {t} p h e =
       record { reached = omega arith; same = rw (add-one i) (ap₂ ◌&&◌ p.same e ∙ and_comm (every i f) (f i)) }
@@ -39,9 +36,6 @@ pub record Placing {A : Type 0} (n : ℕ) (f : ℕ → A) (old : List A) (k : �
   pub drawn : new ≡ filled old (tabulate n f) k
 
 module _ {A : Type 0} {n : ℕ} {f : ℕ → A} {old : List A} where
-  pub place_start : n ≤ length old → Placing n f old 0 old
-  place_start h = record { reached = omega arith; room = h; long = refl; drawn = refl }
-
   module _ {k : ℕ} {new : List A} (p : Placing n f old k new) where
     pub place_next : {v : A} → k < n → v ≡ f k → Placing n f old (k + 1) (set new k v)
     place_next {v} h e =
@@ -56,11 +50,6 @@ module _ {A : Type 0} {n : ℕ} {f : ℕ → A} {old : List A} where
 
     pub place_end : n ≤ k → new ≡ over (tabulate n f) old
     place_end h = let e : k ≡ n = omega (arith, p.reached) in p.drawn ∙ rw e (filled_all old (tabulate n f) n (length_tabulate n f))
-
-    pub place_whole : n ≤ k → length old ≡ n → new ≡ tabulate n f
-    place_whole h l =
-        let e : k ≡ n = omega (arith, p.reached) in
-        p.drawn ∙ rw e (filled_whole old (tabulate n f) n l (length_tabulate n f))
 
 -- ---- the cells of a part, summed up: at word i, those of the words before it. No row's covers exceed 127 with those still to come, so no sum
 -- outgrows its type

@@ -1,9 +1,9 @@
 -- The promise of bounding a part, from what the code leaves: a refused call leaves the planes, an accepted one writes them from d by columns.
 -- Assumes nothing.
-use Rattle.std.specs.Prelude.{◌≡◌, ◌<◌}
+use Rattle.refusals.specs.declared.Refusal.{Refusal}
+use Rattle.std.specs.Prelude.{◌≡◌, ◌<◌, Result}
 use Rattle.laws.proofs.Prelude.{sym, ap, ap₂, ◌∙◌, List, ℕ, arith, ℤ, over}
 use Rattle.refusals.specs.Refusal.{Judgement, pass, refuse, judgement_in}
-use Rattle.refusals.specs.declared.Verdict.{Verdict}
 use Rattle.pixel_segment.specs.Field.{cpu}
 use Rattle.styling.specs.declared.FillRule.{FillRule}
 use Rattle.styling.specs.declared.FillRule.TheVariants.{NonZero, EvenOdd}
@@ -20,7 +20,7 @@ use Rattle.cover_bounds_statements.proofs.Calls.{bounds_passed, is_sound, area_i
 never : (n : ℕ) → refuse n ≡ pass → ⊥
 never n e = let z : ◌≡◌ {A = ℕ} 0 1 = cc in omega arith
 
-pub refused_part : {call : BoundsCall} {old : BoundPlanes} {r : Verdict} (n : ℕ) → bounds_verdict call old ≡ refuse n → judgement_in r ≡ refuse n → BoundsPart call old r old
+pub refused_part : {call : BoundsCall} {old : BoundPlanes} {r : Result Unit Refusal} (n : ℕ) → bounds_verdict call old ≡ refuse n → judgement_in r ≡ refuse n → BoundsPart call old r old
 refused_part {call} {old} n e f =
     record {
       answer = f ∙ sym e;
@@ -48,7 +48,7 @@ module _ (call : BoundsCall) {lows highs : List ℤ} (a : AreasBetween call.part
   greatest_same rule =
       places_ext 16 (greatest_in rule lows highs) (greatest_at rule call) (λ c y h k. ap₂ (greatest_weight rule) (low_at c y h k) (high_at c y h k))
 
-  pub written_part : {old new : BoundPlanes} {r : Verdict} → bounds_verdict call old ≡ pass → judgement_in r ≡ pass → PlanesWritten lows highs old new → BoundsPart call old r new
+  pub written_part : {old new : BoundPlanes} {r : Result Unit Refusal} → bounds_verdict call old ≡ pass → judgement_in r ≡ pass → PlanesWritten lows highs old new → BoundsPart call old r new
   written_part {old} {new} e f w =
       record {
         answer = f ∙ sym e;

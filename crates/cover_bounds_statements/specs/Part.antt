@@ -1,8 +1,8 @@
 -- The promise of bounding a part: the answer, each of the six lent planes, and what those of an accepted call say.
-use Rattle.std.specs.Prelude.{◌≡◌}
+use Rattle.refusals.specs.declared.Refusal.{Refusal}
+use Rattle.std.specs.Prelude.{◌≡◌, Result}
 use Rattle.laws.specs.Prelude.{List, ℕ, over}
 use Rattle.refusals.specs.Refusal.{Judgement, pass, refuse, judgement_in}
-use Rattle.refusals.specs.declared.Verdict.{Verdict}
 use Rattle.styling.specs.declared.FillRule.TheVariants.{NonZero, EvenOdd}
 use Rattle.cover_statements.specs.Plane.{in_places}
 use Rattle.cover_bounds_statements.specs.Within.{BoundsCall, BoundPlanes, bounds_verdict, lowest_at, highest_at, least_at, greatest_at}
@@ -13,7 +13,7 @@ abbrev pub plane_by : {A : Type 0} → Judgement → (ℕ → ℕ → A) → Lis
 plane_by pass f old = over (in_places 16 f) old
 plane_by (refuse number) f old = old
 
-pub record BoundsPart (call : BoundsCall) (old : BoundPlanes) (r : Verdict) (new : BoundPlanes) : Type 0 where
+pub record BoundsPart (call : BoundsCall) (old : BoundPlanes) (r : Result Unit Refusal) (new : BoundPlanes) : Type 0 where
   pub answer : judgement_in r ≡ bounds_verdict call old
   pub lowest_is : new.lowest ≡ plane_by (bounds_verdict call old) (lowest_at call) old.lowest
   pub highest_is : new.highest ≡ plane_by (bounds_verdict call old) (highest_at call) old.highest

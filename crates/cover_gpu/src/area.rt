@@ -44,9 +44,8 @@ fn acc_segments(
     ensures { Judged gpu 4 incoming part.now result areas.new covers.new }
 {
     let mut loads = incoming;
-    let mut i = 0;
-    while i < part.len() {
-        let segment = GpuSegment(part[i]);
+    for word in part {
+        let segment = GpuSegment(*word);
         let cover = cover_of(segment);
         let y = segment.local_y() as usize;
         let before = loads[y];
@@ -56,9 +55,8 @@ fn acc_segments(
         }
         loads[y] = load;
         let k = cell(segment);
-        areas[k] = areas[k] + area_of(segment, cover);
-        covers[k] = covers[k] + cover as i8;
-        i += 1;
+        areas[k] += area_of(segment, cover);
+        covers[k] += cover as i8;
     }
     true
 }
@@ -70,13 +68,11 @@ fn shade_row(areas: &mut [i16; 64], covers: &[i8; 64], y: usize, cover: i8)
     ensures { RowShaded gpu 4 y cover areas.old covers.now areas.new }
 {
     let mut sum = cover;
-    let mut x = 0;
-    while x < 16 {
+    for x in 0..16 {
         let k = x * 4 + y;
         let next = sum + covers[k];
-        areas[k] = 32 * (sum as i16) + areas[k];
+        areas[k] += 32 * (sum as i16);
         sum = next;
-        x += 1;
     }
 }
 
@@ -85,10 +81,8 @@ fn sum_rows(areas: &mut [i16; 64], covers: &[i8; 64], incoming: [i8; 4])
     requires { Summable gpu 4 incoming areas.old covers.now }
     ensures { Summed gpu 4 incoming areas.old covers.now areas.new }
 {
-    let mut y = 0;
-    while y < 4 {
+    for y in 0..4 {
         shade_row(areas, covers, y, incoming[y]);
-        y += 1;
     }
 }
 

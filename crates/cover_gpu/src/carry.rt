@@ -33,13 +33,10 @@ fn add_loads(part: &[u64], incoming: [u16; 4]) -> [u16; 4]
     ensures { result ≡ loads_of gpu 4 incoming part.now }
 {
     let mut loads = incoming;
-    let mut i = 0;
-    while i < part.len() {
-        let segment = GpuSegment(part[i]);
+    for word in part {
+        let segment = GpuSegment(*word);
         let y = segment.local_y() as usize;
-        let load = carry::raised(loads[y], segment.cover());
-        loads[y] = load;
-        i += 1;
+        loads[y] = carry::raised(loads[y], segment.cover());
     }
     loads
 }
@@ -65,12 +62,10 @@ pub fn add_segments(part: &[u64], cover: GpuCover) -> GpuCover
     ensures { result.covers ≡ carry_of gpu 4 cover.covers part.now }
 {
     let mut covers = cover.covers;
-    let mut i = 0;
-    while i < part.len() {
-        let segment = GpuSegment(part[i]);
+    for word in part {
+        let segment = GpuSegment(*word);
         let y = segment.local_y() as usize;
-        covers[y] = covers[y] + segment.cover();
-        i += 1;
+        covers[y] += segment.cover();
     }
     GpuCover { covers }
 }

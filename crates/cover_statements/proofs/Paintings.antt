@@ -1,15 +1,16 @@
 -- What painting answers in each case. Assumes nothing.
-use Rattle.std.specs.Prelude.{◌≡◌, ◌≤◌, ◌<◌}
-use Rattle.laws.proofs.Prelude.{sym, ap, ◌∙◌, true, false, List, ℕ, lt-ltb, le-ltb, le-leb, lt-leb, Float, ℤ, length, refused, given}
+use Rattle.refusals.specs.declared.Refusal.{Refusal}
+use Rattle.refusals.specs.declared.Refusal.TheVariants.{Covers, Room}
+use Rattle.std.specs.Prelude.{◌≡◌, ◌≤◌, ◌<◌, Result, Ok, Err, IsOk}
+use Rattle.laws.proofs.Prelude.{refl, sym, ap, ◌∙◌, true, false, List, ℕ, lt-ltb, le-ltb, le-leb, lt-leb, Float, ℤ, length, refused, given}
 use Rattle.laws.proofs.Prelude.{over}
+use Rattle.refusals.specs.Refusal.{given_or_refused}
 use Rattle.styling.specs.declared.FillRule.{FillRule}
 use Rattle.cover_statements.specs.Carry.{is_light}
 use Rattle.cover_statements.specs.Cover.{cover_at}
 use Rattle.cover_statements.specs.Mark.{mark_of}
-use Rattle.cover_statements.specs.Paint.{part_plane, judged_part, painted_plane, painted_answer, Painting}
+use Rattle.cover_statements.specs.Paint.{part_plane, judged_part, painted_plane, Painting}
 use Rattle.cover_statements.specs.Plane.{size_of, plane_of}
-use Rattle.cover_statements.specs.declared.painting.Painted.{Painted}
-use Rattle.cover_statements.specs.declared.painting.Painted.TheVariants.{Mark, PlaneTooShort, CoverTooLarge}
 
 -- ---- over any widths and any height
 
@@ -35,21 +36,28 @@ module _ (ws : List ℕ) (n : ℕ) (rule : FillRule) (covers : List ℤ) (part :
 
 -- ---- at height 16, with the mark
 
+pub is_painted : {mark : ℕ} (r : Result ℕ Refusal) → given_or_refused r ≡ given mark → IsOk r
+is_painted (Ok mark) e = refl
+is_painted (Err refusal) e = cc
+
 module _ {ws : List ℕ} {rule : FillRule} {covers : List ℤ} {part : List ℕ} {old : List Float} where
-  pub paint_short : length old < 256 → Painting ws rule covers part old PlaneTooShort old
+  pub paint_short : length old < 256 → Painting ws rule covers part old (Err Room) old
   paint_short h = record { answer = sym (part_short ws 16 covers part old (mark_of (part_plane ws rule covers part)) h); plane_is = sym (plane_short ws 16 rule covers part old h) }
 
-  pub paint_heavy : 256 ≤ length old → is_light ws 16 covers part ≡ false → Painting ws rule covers part old CoverTooLarge old
+  pub paint_heavy : 256 ≤ length old → is_light ws 16 covers part ≡ false → Painting ws rule covers part old (Err Covers) old
   paint_heavy h e = record { answer = sym (part_heavy ws 16 covers part old (mark_of (part_plane ws rule covers part)) h e); plane_is = sym (plane_heavy ws 16 rule covers part old h e) }
 
   pub paint_done : {new : List Float} {mark : ℕ} → 256 ≤ length old → is_light ws 16 covers part ≡ true → new ≡ over (part_plane ws rule covers part) old → mark ≡ mark_of (part_plane ws rule covers part)
-      → Painting ws rule covers part old (Mark mark) new
+      → Painting ws rule covers part old (Ok mark) new
   paint_done {new} {mark} h e p m = record { answer = ap given m ∙ sym (part_given ws 16 covers part old (mark_of (part_plane ws rule covers part)) h e); plane_is = p ∙ sym (plane_painted ws 16 rule covers part old h e) }
 
   -- where nothing refuses it, the answer is the mark, and the plane holds the coverages
-  module _ {r : Painted} {new : List Float} (p : Painting ws rule covers part old r new) (h : 256 ≤ length old) (e : is_light ws 16 covers part ≡ true) where
-    pub paint_answer : painted_answer r ≡ given (mark_of (part_plane ws rule covers part))
+  module _ {r : Result ℕ Refusal} {new : List Float} (p : Painting ws rule covers part old r new) (h : 256 ≤ length old) (e : is_light ws 16 covers part ≡ true) where
+    pub paint_answer : given_or_refused r ≡ given (mark_of (part_plane ws rule covers part))
     paint_answer = p.answer ∙ part_given ws 16 covers part old (mark_of (part_plane ws rule covers part)) h e
+
+    pub paint_ok : IsOk r
+    paint_ok = is_painted r paint_answer
 
     pub paint_plane : new ≡ over (part_plane ws rule covers part) old
     paint_plane = p.plane_is ∙ plane_painted ws 16 rule covers part old h e

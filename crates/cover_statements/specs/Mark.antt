@@ -1,12 +1,12 @@
 -- Which octets of a plane a draw uses, and the mark that says so. Octet h (0 or 1) of a column is its rows 8h to 8h + 7; bit 2 × column + h of
 -- the mark is set when some coverage of it is above 0. The octet count is the number of used octets.
-use Rattle.std.specs.Prelude.{◌||◌, ◌≡◌, ◌∷◌, ◌+◌, ◌*◌, ◌/◌, ◌%◌}
+use Rattle.refusals.specs.Refusal.{number_of}
+use Rattle.refusals.specs.declared.Refusal.{Refusal}
+use Rattle.std.specs.Prelude.{◌||◌, ◌≡◌, ◌∷◌, ◌+◌, ◌*◌, ◌/◌, ◌%◌, Result, Ok, Err}
 use Rattle.laws.specs.Prelude.{Bool, false, cond, List, [], ℕ, zero, suc, ones, ltb, length, get_or, Float, nan}
 use Rattle.laws.specs.Prelude.{bool_byte, Answer, refused, given, tabulate}
 use Rattle.cover_statements.specs.Coverage.{is_above}
 use Rattle.cover_statements.specs.Plane.{place_of, size_of}
-use Rattle.cover_statements.specs.declared.marking.Marked.{Marked}
-use Rattle.cover_statements.specs.declared.marking.Marked.TheVariants.{Mark, PlaneTooShort}
 
 -- the coverage of row i of octet h of a column is above 0
 abbrev pub above_at : List Float → ℕ → ℕ → ℕ → Bool
@@ -55,10 +55,6 @@ octets_of plane = count_true (used_octets plane)
 -- what marking a plane answers: its mark, or refused by 1 where the plane is below 256 numbers
 abbrev pub marked : List Float → Answer ℕ
 marked plane = cond (ltb (length plane) (size_of 16)) (refused 1) (given (mark_of plane))
-
-abbrev pub marked_answer : Marked → Answer ℕ
-marked_answer (Mark mark) = given mark
-marked_answer PlaneTooShort = refused 1
 
 -- the count of a mark's octets: its ones, which are the used octets of every plane with this mark
 pub record Counted (mark r : ℕ) : Type 0 where

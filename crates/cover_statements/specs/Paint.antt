@@ -1,13 +1,13 @@
 -- Painting a part: its 256 coverages written into a lent plane, and their mark. Refused by 1 where the plane is below 256 numbers, then by 9.
-use Rattle.std.specs.Prelude.{◌&&◌, ◌≡◌}
+use Rattle.refusals.specs.Refusal.{number_of, given_or_refused}
+use Rattle.refusals.specs.declared.Refusal.{Refusal}
+use Rattle.std.specs.Prelude.{◌&&◌, ◌≡◌, Result, Ok, Err}
 use Rattle.laws.specs.Prelude.{cond, List, ℕ, leb, ltb, Float, ℤ, length, Answer, refused, given, over}
 use Rattle.styling.specs.declared.FillRule.{FillRule}
 use Rattle.cover_statements.specs.Carry.{is_light}
 use Rattle.cover_statements.specs.Cover.{cover_at}
 use Rattle.cover_statements.specs.Mark.{mark_of}
 use Rattle.cover_statements.specs.Plane.{size_of, plane_of}
-use Rattle.cover_statements.specs.declared.painting.Painted.{Painted}
-use Rattle.cover_statements.specs.declared.painting.Painted.TheVariants.{Mark, PlaneTooShort, CoverTooLarge}
 
 -- the coverages of a part, from an incoming cover
 abbrev pub part_plane : List ℕ → FillRule → List ℤ → List ℕ → List Float
@@ -28,11 +28,6 @@ painted_plane ws n rule covers part old = cond (leb (size_of n) (length old) && 
 abbrev pub part_answer : List ℕ → FillRule → List ℤ → List ℕ → List Float → Answer ℕ
 part_answer ws rule covers part old = judged_part ws 16 covers part old (mark_of (part_plane ws rule covers part))
 
-abbrev pub painted_answer : Painted → Answer ℕ
-painted_answer (Mark mark) = given mark
-painted_answer PlaneTooShort = refused 1
-painted_answer CoverTooLarge = refused 9
-
-pub record Painting (ws : List ℕ) (rule : FillRule) (covers : List ℤ) (part : List ℕ) (old : List Float) (r : Painted) (new : List Float) : Type 0 where
-  pub answer : painted_answer r ≡ part_answer ws rule covers part old
+pub record Painting (ws : List ℕ) (rule : FillRule) (covers : List ℤ) (part : List ℕ) (old : List Float) (r : Result ℕ Refusal) (new : List Float) : Type 0 where
+  pub answer : given_or_refused r ≡ part_answer ws rule covers part old
   pub plane_is : new ≡ painted_plane ws 16 rule covers part old

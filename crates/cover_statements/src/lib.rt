@@ -1,5 +1,2 @@
-// What marks and planes answer. The contracts and laws are in specs/ and proofs/; the functions are of cover.
+// What covers, weights, coverages, planes and marks are. specs/ has the definitions, proofs/ the laws. No code.
 #![tactic(auto)]
-
-pub mod marking;
-pub mod painting;

@@ -24,11 +24,9 @@ fn write_curve(out: &mut [u8]) -> usize
     ensures { LineWritten curve_text out.old result out.new }
 {
     let mut end = fields::print_bytes(out, 0, b"rest weight\n");
-    let mut rest: u16 = 0;
-    while rest < 1024 {
+    for rest in 0..1024 {
         let line = line_of(rest);
         end = lines::print_line(out, end, &line);
-        rest += 1;
     }
     end
 }

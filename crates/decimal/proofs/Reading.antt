@@ -1,10 +1,9 @@
 -- What holds while the digits of a number are read: the digits of n are passed, and what is left to read from place i on is what was
 -- to be read at the start.
 -- Assumes nothing.
-use Rattle.std.specs.Prelude.{◌≡◌, ◌+◌, ◌-◌, ◌*◌, ◌<◌, ◌≤◌}
+use Rattle.std.specs.Prelude.{◌≡◌, ◌+◌, ◌-◌, ◌*◌, ◌<◌, ◌≤◌, Some, None}
 use Rattle.laws.proofs.Prelude.{refl, sym, ap, ◌∙◌, true, false, List, ℕ, add-one, arith, length, drop, get_or}
 use Rattle.laws.proofs.Prelude.{drop_of_length-le, drop-cons}
-use Rattle.decimal.specs.declared.Unsigned.TheVariants.{Natural, Missing}
 use Rattle.decimal.specs.Decimal.{is_digit}
 use Rattle.decimal.specs.Parse.{append_digit, more_digits, parseℕ}
 use Rattle.decimal.specs.Read.{UnsignedRead}
@@ -17,11 +16,11 @@ pub record Reading (limit : ℕ) (s : List ℕ) (at n i : ℕ) : Type 0 where
 
 -- the first byte: there is none, it is no digit, or it is one
 module _ {limit : ℕ} {s : List ℕ} {at : ℕ} (l : 10 ≤ limit) where
-  pub past : length s ≤ at → UnsignedRead limit s at Missing
+  pub past : length s ≤ at → UnsignedRead limit s at None
   unfolding parseℕ
   past h = record { answer = rw (drop_of_length-le s h); within = omega arith; below = omega arith }
 
-  pub none : at < length s → is_digit (get_or s at 0) ≡ false → UnsignedRead limit s at Missing
+  pub none : at < length s → is_digit (get_or s at 0) ≡ false → UnsignedRead limit s at None
   none h d = record { answer = rw (drop-cons s at 0 h) (sym (parseℕ_stop limit _ _ d)); within = omega arith; below = omega arith }
 
   pub start : at < length s → is_digit (get_or s at 0) ≡ true → Reading limit s at (get_or s at 0 - 48) (at + 1)
@@ -33,24 +32,26 @@ module _ {limit : ℕ} {s : List ℕ} {at : ℕ} (l : 10 ≤ limit) where
 
 -- a byte after digits
 module _ {limit : ℕ} {s : List ℕ} {at n i : ℕ} (v : Reading limit s at n i) where
-  pub end : length s ≤ i → UnsignedRead limit s at (Natural n i)
+  pub end : length s ≤ i → UnsignedRead limit s at (Some (n, length s))
   unfolding more_digits
-  end h = record { answer = rw (drop_of_length-le s h) refl ∙ v.rest; within = v.within; below = v.below }
+  end h =
+      let whole : length s ≤ length s = omega arith in
+      record { answer = rw (drop_of_length-le s h, drop_of_length-le s whole) refl ∙ v.rest; within = whole; below = v.below }
 
   module _ (h : i < length s) where
-    pub stop : is_digit (get_or s i 0) ≡ false → UnsignedRead limit s at (Natural n i)
+    pub stop : is_digit (get_or s i 0) ≡ false → UnsignedRead limit s at (Some (n, i))
     stop d = record { answer = rw (drop-cons s i 0 h) (sym (more_stop limit n _ _ d)) ∙ v.rest; within = omega arith; below = v.below }
 
     module _ (d : is_digit (get_or s i 0) ≡ true) where
       -- a digit after a 0, and one that leads to the limit
-      pub after_zero : n ≡ 0 → UnsignedRead limit s at Missing
+      pub after_zero : n ≡ 0 → UnsignedRead limit s at None
       after_zero z = record {
         answer = sym (more_zero limit n _ _ d z) ∙ ap (more_digits limit n) (sym (drop-cons s i 0 h)) ∙ v.rest;
         within = omega arith;
         below = omega (arith, v.below);
       }
 
-      pub too_large : (n ≡ 0 → ⊥) → limit ≤ n * 10 + (get_or s i 0 - 48) → UnsignedRead limit s at Missing
+      pub too_large : (n ≡ 0 → ⊥) → limit ≤ n * 10 + (get_or s i 0 - 48) → UnsignedRead limit s at None
       too_large z l = record {
         answer = sym (more_large limit n _ _ d (omega arith) l) ∙ ap (more_digits limit n) (sym (drop-cons s i 0 h)) ∙ v.rest;
         within = omega arith;

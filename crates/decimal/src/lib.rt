@@ -6,81 +6,59 @@ ghost use Rattle.decimal.specs.Decimal.{decimal, decimalℤ, is_digit};
 ghost use Rattle.decimal.specs.Read.{UnsignedRead, SignedRead};
 ghost use Rattle.decimal.specs.Print.{Printing};
 
-// What stands at a place: a number without a sign and the place after it, or none.
-#[derive(Clone, Copy)]
-pub enum Unsigned {
-    Natural(u64, usize),
-    Missing,
-}
-
-// The same with a sign, for numbers of at most seven digits.
-#[derive(Clone, Copy)]
-pub enum Signed {
-    Integer(i32, usize),
-    Malformed,
-}
-
 pub fn is_digit(b: u8) -> bool
     ensures { result ≡ is_digit b }
 {
     (b'0' <= b) & (b <= b'9')
 }
 
-// The number at a place, below `limit`: no leading zeros, and no digit after it.
-pub fn read_unsigned(s: &[u8], at: usize, limit: u64) -> Unsigned
+// The number at a place, below `limit`, and the place after it: no leading zeros, and no digit after it.
+pub fn read_unsigned(s: &[u8], at: usize, limit: u64) -> Option<(u64, usize)>
     requires { (10 ≤ limit) × (limit ≤ 2 ^ 32) }
     ensures { UnsignedRead limit s.now at result }
 {
     if s.len() <= at {
-        return Unsigned::Missing;
+        return None;
     }
     let first = s[at];
     if !is_digit(first) {
-        return Unsigned::Missing;
+        return None;
     }
     let mut n = (first - b'0') as u64;
-    let mut i = at + 1;
-    while i < s.len() {
+    for i in at + 1..s.len() {
         let b = s[i];
         if !is_digit(b) {
-            return Unsigned::Natural(n, i);
+            return Some((n, i));
         }
         if n == 0 {
-            return Unsigned::Missing;
+            return None;
         }
         let longer = n * 10 + (b - b'0') as u64;
         if limit <= longer {
-            return Unsigned::Missing;
+            return None;
         }
         n = longer;
-        i += 1;
     }
-    Unsigned::Natural(n, i)
+    Some((n, s.len()))
 }
 
-// A minus stands only before a number that is not 0.
-pub fn read_signed(s: &[u8], at: usize) -> Signed
+// The same with a sign, of at most seven digits: a minus stands only before a number that is not 0.
+pub fn read_signed(s: &[u8], at: usize) -> Option<(i32, usize)>
     ensures { SignedRead s.now at result }
 {
     if s.len() <= at {
-        return Signed::Malformed;
+        return None;
     }
     if s[at] == b'-' {
-        match read_unsigned(s, at + 1, 10000000) {
-            Unsigned::Natural(m, next) => {
-                if m == 0 {
-                    return Signed::Malformed;
-                }
-                let v = m as i32;
-                Signed::Integer(-v, next)
-            }
-            Unsigned::Missing => Signed::Malformed,
+        let (m, next) = read_unsigned(s, at + 1, 10000000)?;
+        if m == 0 {
+            return None;
         }
+        let v = m as i32;
+        Some((-v, next))
     } else {
-        match read_unsigned(s, at, 10000000) {
-            Unsigned::Natural(n, next) => Signed::Integer(n as i32, next),
-            Unsigned::Missing => Signed::Malformed,
-        }
+        let (n, next) = read_unsigned(s, at, 10000000)?;
+        Some((n as i32, next))
     }
 }
 
@@ -103,9 +81,10 @@ pub fn print_signed(out: &mut [u8], at: usize, v: i32) -> usize
     requires { at + 11 ≤ length out.old }
     ensures { (Printing (decimalℤ v) out.old at result out.new) × (result ≤ at + 11) }
 {
+    let size = v.unsigned_abs();
     if v < 0 {
         out[at] = b'-';
-        return print_decimal(out, at + 1, (0 - v as i64) as u32);
+        return print_decimal(out, at + 1, size);
     }
-    print_decimal(out, at, v as u32)
+    print_decimal(out, at, size)
 }

@@ -1,6 +1,7 @@
 -- What is told of an answer by numbers is told of an equal one. Assumes nothing.
 use Rattle.std.specs.Prelude.{◌≡◌}
 use Rattle.laws.proofs.Prelude.{ap, subst, ◌∙◌, Bool, List, Option, ℕ, Float, Answer}
+use Rattle.refusals.specs.Refusal.{given_or_refused}
 use Rattle.cached_tile.specs.declared.SolidColor.{SolidColor}
 use Rattle.cached_tile.specs.declared.kept.Kept.{Kept}
 use Rattle.cached_tile.specs.Kept.{Writing}
@@ -9,10 +10,10 @@ use Rattle.row_statements.specs.Lent.{Columns}
 use Rattle.row_statements.specs.State.{State, state_in}
 use Rattle.row_statements.specs.Opening.{OpenGiven}
 use Rattle.row_statements.specs.TileWork.{WorkCall, WorkLent, work_of, work_answer, GivesWork}
-use Rattle.row_statements.specs.Painting.{PaintCall, paint_of, paint_answer, PaintsLayer}
+use Rattle.row_statements.specs.Painting.{PaintCall, paint_of, PaintsLayer}
 use Rattle.row_statements.specs.declared.TileWorked.{TileWorked}
 use Rattle.row_statements.specs.declared.Painted.{Painted}
-use Rattle.listing_statements.specs.Listing.{ListCall, ListLent, listing_of, list_answer, ListsTile}
+use Rattle.listing_statements.specs.Listing.{ListCall, ListLent, listing_of, ListsTile}
 use Rattle.listing_statements.specs.Deciding.{DecideGiven, decide_answer, DecidesTile}
 use Rattle.listing_statements.specs.declared.TileListed.{TileListed}
 use Rattle.listing_statements.specs.declared.TileDecided.{TileDecided}
@@ -67,7 +68,7 @@ worked call lent {w = w} {old = old} {back = back} e given told =
     }
 
 -- painting, the same
-pub painted : (call : State → PaintCall) (plane : List Float) {s t : State} {p : Painted} {old new : PaintNumbers} {r : ℕ} {back : List Float} → s ≡ t → PaintsLayer (paint_of (call s) plane) p back → (r ≡ refusal_number (paint_answer p.answer)) × (new ≡ painted_numbers (paint_answer p.answer) (state_in p.state) old) → PaintTold (paint_of (call t) plane) old r new back
+pub painted : (call : State → PaintCall) (plane : List Float) {s t : State} {p : Painted} {old new : PaintNumbers} {r : ℕ} {back : List Float} → s ≡ t → PaintsLayer (paint_of (call s) plane) p back → (r ≡ refusal_number (given_or_refused p.answer)) × (new ≡ painted_numbers (given_or_refused p.answer) (state_in p.state) old) → PaintTold (paint_of (call t) plane) old r new back
 painted call plane {p = p} {old = old} {back = back} e given told =
     let paints = subst (λ (x : State). PaintsLayer (paint_of (call x) plane) p back) e given in
     record {
@@ -77,7 +78,7 @@ painted call plane {p = p} {old = old} {back = back} e given told =
     }
 
 -- listing, the same
-pub listed : (call : State → ListCall) (lent : ListLent) {s t : State} {w : TileListed} {old new : ListNumbers} {r : ℕ} {back : ListLent} → s ≡ t → ListsTile (listing_of (call s) lent) w back → (r ≡ refusal_number (list_answer w.answer)) × (new ≡ listed_numbers (list_answer w.answer) (state_in w.state) old) → ListTold (listing_of (call t) lent) old r new back
+pub listed : (call : State → ListCall) (lent : ListLent) {s t : State} {w : TileListed} {old new : ListNumbers} {r : ℕ} {back : ListLent} → s ≡ t → ListsTile (listing_of (call s) lent) w back → (r ≡ refusal_number (given_or_refused w.answer)) × (new ≡ listed_numbers (given_or_refused w.answer) (state_in w.state) old) → ListTold (listing_of (call t) lent) old r new back
 listed call lent {w = w} {old = old} {back = back} e given told =
     let lists = subst (λ (x : State). ListsTile (listing_of (call x) lent) w back) e given in
     record {

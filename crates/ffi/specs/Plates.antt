@@ -1,9 +1,8 @@
 -- A vertical crop by numbers.
+use Rattle.std.specs.Prelude.{Option, Some, None}
 use Rattle.laws.specs.Prelude.{Bool, true, false, ℕ}
-use Rattle.plate.specs.declared.Crop.{Crop}
-use Rattle.plate.specs.declared.Crop.TheVariants.{Absent, Rows}
 
 -- where none is given, its start and end play no part
-abbrev pub crop_of : Bool → ℕ → ℕ → Crop
-crop_of true start end = Rows start end
-crop_of false start end = Absent
+abbrev pub crop_of : Bool → ℕ → ℕ → Option (ℕ × ℕ)
+crop_of true start end = Some (start, end)
+crop_of false start end = None

@@ -5,14 +5,14 @@ ghost use Rattle.cover_bounds_statements.specs.Within.{bounds_call, bound_planes
 ghost use Rattle.ffi.specs.Bounds.{bounds_number, BoundsTold};
 
 use cover::Cover;
-use refusals::Verdict;
+use refusals::Refusal;
 
-fn tell_verdict(verdict: Verdict) -> u32
+fn tell_verdict(verdict: Result<(), Refusal>) -> u32
     ensures { result ≡ bounds_number (judgement_in verdict) }
 {
     match verdict {
-        Verdict::Pass => 0,
-        Verdict::Refuse(refusal) => refusals::number_of(refusal),
+        Ok(()) => 0,
+        Err(refusal) => refusals::number_of(refusal),
     }
 }
 

@@ -1,13 +1,13 @@
 // Cached tiles. A tile is lent as its eight bytes: the tag, the count's three, lowest first, and the colour's four.
 ghost use Rattle.std.specs.Prelude.{◌≡◌};
-ghost use Rattle.cached_tile.specs.Tile.{layer_count_of, solid_color_of, update_count, update_color, count_in};
+ghost use Rattle.cached_tile.specs.Tile.{layer_count_of, solid_color_of, update_count, update_color};
 ghost use Rattle.cached_tile.specs.Kept.{settle_of, settled_kept};
 ghost use Rattle.ffi_numbers.specs.Numbers.{refusal_number};
 ghost use Rattle.ffi_numbers.specs.Cached.{tile_from, tile_bytes, kept_of, is_some, given_or, count_if, color_if, color_or};
 ghost use Rattle.ffi_numbers.specs.Cached.{written_or, settled_bytes};
 
 use cached_tile::kept::Kept;
-use cached_tile::{LayerCount, SolidColor, kept};
+use cached_tile::{SolidColor, kept};
 use ffi_numbers::cached;
 
 // Whether the tile keeps a layer count; where it does, the count in `count`.
@@ -52,14 +52,10 @@ pub extern "C" fn ffi_update_layer_count(
     cached::put_count(before, previous)
 }
 
-fn count_if(given: bool, count: u32) -> LayerCount
-    ensures { count_in result ≡ count_if given count }
+fn count_if(given: bool, count: u32) -> Option<u32>
+    ensures { result ≡ count_if given count }
 {
-    if given {
-        LayerCount::Count(count)
-    } else {
-        LayerCount::Absent
-    }
+    if given { Some(count) } else { None }
 }
 
 // The tile keeps the colour, where one is given, or none. Whether it kept one before; where it did, its bytes in

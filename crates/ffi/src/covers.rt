@@ -1,20 +1,20 @@
 // Covers and coverages. A cover is lent as its 16 signed bytes, and a fill rule is its number in a layer record.
 ghost use Rattle.std.specs.Prelude.{◌≡◌};
+ghost use Rattle.refusals.specs.Refusal.{given_or_refused};
 ghost use Rattle.pixel_segment.specs.Field.{cpu};
 ghost use Rattle.styling.specs.Codes.{rule_of};
 ghost use Rattle.cover_statements.specs.Cover.{is_empty, is_full};
 ghost use Rattle.cover_statements.specs.Carry.{add_of};
 ghost use Rattle.cover.specs.Adding.{carried_answer};
 ghost use Rattle.cover_statements.specs.Coverage.{area_coverage};
-ghost use Rattle.cover_statements.specs.Mark.{marked, marked_answer, Counted};
-ghost use Rattle.cover_statements.specs.Paint.{part_answer, painted_answer};
+ghost use Rattle.cover_statements.specs.Mark.{marked, Counted};
+ghost use Rattle.cover_statements.specs.Paint.{part_answer};
 ghost use Rattle.ffi_numbers.specs.Numbers.{refusal_number, value_or};
 ghost use Rattle.ffi.specs.Covers.{plane_after};
 
 use cover::carry::Carried;
 use cover::{Cover, carry};
-use cover_statements::marking::Marked;
-use cover_statements::painting::Painted;
+use refusals::Refusal;
 use styling::codes;
 
 #[unsafe(no_mangle)]
@@ -86,20 +86,19 @@ pub extern "C" fn ffi_paint_part(
 {
     let bytes = *covers;
     let painted = plane::paint_part(part, Cover { covers: bytes }, codes::fill_rule(rule), plane);
-    put_painted(painted, mark)
+    put_mark(painted, mark)
 }
 
-fn put_painted(painted: Painted, mark: &mut u32) -> u32
-    ensures value { result ≡ refusal_number (painted_answer painted) }
-    ensures mark_after { mark.new ≡ value_or (painted_answer painted) mark.old }
+fn put_mark(told: Result<u32, Refusal>, mark: &mut u32) -> u32
+    ensures value { result ≡ refusal_number (given_or_refused told) }
+    ensures mark_after { mark.new ≡ value_or (given_or_refused told) mark.old }
 {
-    match painted {
-        Painted::Mark(octets) => {
+    match told {
+        Ok(octets) => {
             *mark = octets;
             0
         },
-        Painted::PlaneTooShort => 1,
-        Painted::CoverTooLarge => 9,
+        Err(refusal) => refusals::number_of(refusal),
     }
 }
 
@@ -109,20 +108,7 @@ pub extern "C" fn ffi_mark_plane(plane: &[f32], mark: &mut u32) -> u32
     ensures value { result ≡ refusal_number (marked plane.now) }
     ensures mark_after { mark.new ≡ value_or (marked plane.now) mark.old }
 {
-    put_marked(mark::mark_plane(plane), mark)
-}
-
-fn put_marked(marked: Marked, mark: &mut u32) -> u32
-    ensures value { result ≡ refusal_number (marked_answer marked) }
-    ensures mark_after { mark.new ≡ value_or (marked_answer marked) mark.old }
-{
-    match marked {
-        Marked::Mark(octets) => {
-            *mark = octets;
-            0
-        },
-        Marked::PlaneTooShort => 1,
-    }
+    put_mark(mark::mark_plane(plane), mark)
 }
 
 // How many octets a mark has.

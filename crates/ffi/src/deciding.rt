@@ -13,10 +13,12 @@ ghost use Rattle.ffi.specs.Deciding.{decide_numbers, decided_numbers, DecideTold
 use crate::{layers, working};
 use cached_tile::kept::Kept;
 use ffi_numbers::cached;
-use listing_statements::DecideAnswer;
+use pass_statements::Index;
+use pass_statements::decide::Decision;
+use refusals::Refusal;
 
 fn put_decided(
-    answer: DecideAnswer,
+    answer: Result<(Decision, Index), Refusal>,
     after: Kept,
     kept: &mut [u8; 8],
     told: &mut [usize; 3],
@@ -28,8 +30,8 @@ fn put_decided(
         (decide_numbers kept.old told.old bottom.old) }
 {
     match answer {
-        DecideAnswer::Refused(refusal) => refusals::number_of(refusal),
-        DecideAnswer::Decided(decision, skipped) => {
+        Err(refusal) => refusals::number_of(refusal),
+        Ok((decision, skipped)) => {
             cached::put_kept(after, kept);
             *told = [
                 working::code_of(decision),

@@ -20,19 +20,20 @@ use crate::words::rank_of;
 use cover_gpu::carry::GpuCarried;
 use cover_gpu::{GpuCover, carry};
 use ffi_numbers::{four_high, words};
-use pixel_segment_gpu::{GpuPacked, GpuSegment, order, search};
+use pixel_segment_gpu::{GpuSegment, order, search};
+use refusals::Refusal;
 use styling::codes;
 
-fn put_packed(packed: GpuPacked, word: &mut u64) -> u32
+fn put_packed(packed: Result<GpuSegment, Refusal>, word: &mut u64) -> u32
     ensures value { result ≡ refusal_number (gpu_packed_answer packed) }
     ensures word_after { word.new ≡ value_or (gpu_packed_answer packed) word.old }
 {
     match packed {
-        GpuPacked::Segment(s) => {
+        Ok(s) => {
             *word = s.0;
             0
         },
-        GpuPacked::FieldOutOfRange => 11,
+        Err(refusal) => refusals::number_of(refusal),
     }
 }
 

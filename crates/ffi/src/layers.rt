@@ -6,7 +6,6 @@ ghost use Rattle.styling.specs.Style.{is_opaque};
 ghost use Rattle.layer_table.specs.Table.{is_table_short, is_table};
 ghost use Rattle.ffi.specs.Layers.{color_from, previous_of, draw_of};
 
-use layer_workbench::PreviousClear;
 use styling::{Color, Func, Style, codes};
 
 pub fn to_color(numbers: [f32; 4]) -> Color
@@ -21,14 +20,10 @@ pub fn to_color(numbers: [f32; 4]) -> Color
 }
 
 // The clear colour of the frame before, where one is given.
-pub fn to_previous(given: bool, numbers: [f32; 4]) -> PreviousClear
+pub fn to_previous(given: bool, numbers: [f32; 4]) -> Option<Color>
     ensures { result ≡ previous_of given numbers }
 {
-    if given {
-        PreviousClear::Given(to_color(numbers))
-    } else {
-        PreviousClear::Absent
-    }
+    if given { Some(to_color(numbers)) } else { None }
 }
 
 #[unsafe(no_mangle)]

@@ -1,32 +1,33 @@
 // Listing the next tile, without a decision: the layer inspector's call. Its answer is lent as a number, how many
 // layers are listed.
 ghost use Rattle.std.specs.Prelude.{◌≡◌};
+ghost use Rattle.refusals.specs.Refusal.{given_or_refused};
 ghost use Rattle.row_statements.specs.Lent.{columns, lent_table};
 ghost use Rattle.row_statements.specs.State.{state_in};
-ghost use Rattle.listing_statements.specs.Listing.{tile_list, list_call, list_lent, listing_of, list_answer};
+ghost use Rattle.listing_statements.specs.Listing.{tile_list, list_call, list_lent, listing_of};
 ghost use Rattle.ffi_numbers.specs.Numbers.{refusal_number};
 ghost use Rattle.ffi_numbers.specs.Rows.{state_from};
 ghost use Rattle.ffi.specs.Listing.{list_numbers, listed_numbers, ListTold};
 
 use ffi_numbers::rows;
-use listing_statements::ListAnswer;
+use refusals::Refusal;
 use row_statements::RowState;
 
 fn put_listed(
-    answer: ListAnswer,
+    answer: Result<usize, Refusal>,
     state: RowState,
     words: &mut [u32; 6],
     counts: &mut [usize; 2],
     listed: &mut usize,
 ) -> u32
-    ensures value { result ≡ refusal_number (list_answer answer) }
+    ensures value { result ≡ refusal_number (given_or_refused answer) }
     ensures listed_after { list_numbers words.new counts.new listed.new
-        ≡ listed_numbers (list_answer answer) (state_in state)
+        ≡ listed_numbers (given_or_refused answer) (state_in state)
         (list_numbers words.old counts.old listed.old) }
 {
     match answer {
-        ListAnswer::Refused(refusal) => refusals::number_of(refusal),
-        ListAnswer::Listed(n) => {
+        Err(refusal) => refusals::number_of(refusal),
+        Ok(n) => {
             rows::put_state(state, words, counts);
             *listed = n;
             0

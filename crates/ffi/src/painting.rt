@@ -1,30 +1,32 @@
 // Painting a layer of the tile just worked.
 ghost use Rattle.std.specs.Prelude.{◌≡◌};
+ghost use Rattle.refusals.specs.Refusal.{given_or_refused};
 ghost use Rattle.row_statements.specs.Lent.{columns, lent_table};
 ghost use Rattle.row_statements.specs.State.{state_in};
-ghost use Rattle.row_statements.specs.Painting.{paint_call, paint_of, paint_answer};
+ghost use Rattle.row_statements.specs.Painting.{paint_call, paint_of};
 ghost use Rattle.ffi_numbers.specs.Numbers.{refusal_number};
 ghost use Rattle.ffi_numbers.specs.Rows.{state_from};
 ghost use Rattle.ffi.specs.Painting.{paint_numbers, painted_numbers, PaintTold};
 
 use ffi_numbers::rows;
-use row_statements::{PaintAnswer, RowState};
+use refusals::Refusal;
+use row_statements::RowState;
 
 fn put_painted(
-    answer: PaintAnswer,
+    answer: Result<u32, Refusal>,
     state: RowState,
     words: &mut [u32; 6],
     counts: &mut [usize; 2],
     mark: &mut u32,
 ) -> u32
-    ensures value { result ≡ refusal_number (paint_answer answer) }
+    ensures value { result ≡ refusal_number (given_or_refused answer) }
     ensures mark_after { paint_numbers words.new counts.new mark.new
-        ≡ painted_numbers (paint_answer answer) (state_in state)
+        ≡ painted_numbers (given_or_refused answer) (state_in state)
         (paint_numbers words.old counts.old mark.old) }
 {
     match answer {
-        PaintAnswer::Refused(refusal) => refusals::number_of(refusal),
-        PaintAnswer::Mark(octets) => {
+        Err(refusal) => refusals::number_of(refusal),
+        Ok(octets) => {
             rows::put_state(state, words, counts);
             *mark = octets;
             0

@@ -5,7 +5,6 @@ ghost use Rattle.plate.specs.Crop.{is_in_crop};
 ghost use Rattle.ffi.specs.Plates.{crop_of};
 
 use ffi_numbers::plates;
-use plate::Crop;
 
 // Where the segments start that have no negative tile y.
 #[unsafe(no_mangle)]
@@ -25,14 +24,10 @@ pub extern "C" fn ffi_find_row(segments: &[u64], j: usize, end: &mut usize) -> u
 }
 
 // A crop from its first row up to its end, or none.
-fn to_crop(is_given: bool, start: usize, end: usize) -> Crop
+fn to_crop(is_given: bool, start: usize, end: usize) -> Option<(usize, usize)>
     ensures { result ≡ crop_of is_given start end }
 {
-    if is_given {
-        Crop::Rows(start, end)
-    } else {
-        Crop::Absent
-    }
+    if is_given { Some((start, end)) } else { None }
 }
 
 #[unsafe(no_mangle)]

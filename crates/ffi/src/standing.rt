@@ -1,22 +1,23 @@
 // Which layer record stands.
 ghost use Rattle.std.specs.Prelude.{◌≡◌};
+ghost use Rattle.refusals.specs.Refusal.{given_or_refused};
 ghost use Rattle.revision_statements.specs.Sent.{sent_of};
-ghost use Rattle.revision_statements.specs.Verdict.{stand_verdict, standing_answer};
+ghost use Rattle.revision_statements.specs.Verdict.{stand_verdict};
 ghost use Rattle.ffi_numbers.specs.Numbers.{refusal_number, value_or};
 ghost use Rattle.ffi.specs.Revisions.{StandTold};
 
-use revision_statements::Standing;
+use refusals::Refusal;
 
-fn put_standing(answer: Standing, standing: &mut usize) -> u32
-    ensures value { result ≡ refusal_number (standing_answer answer) }
-    ensures standing_after { standing.new ≡ value_or (standing_answer answer) standing.old }
+fn put_standing(answer: Result<usize, Refusal>, standing: &mut usize) -> u32
+    ensures value { result ≡ refusal_number (given_or_refused answer) }
+    ensures standing_after { standing.new ≡ value_or (given_or_refused answer) standing.old }
 {
     match answer {
-        Standing::Layers(n) => {
+        Ok(n) => {
             *standing = n;
             0
         },
-        Standing::Refused(refusal) => refusals::number_of(refusal),
+        Err(refusal) => refusals::number_of(refusal),
     }
 }
 

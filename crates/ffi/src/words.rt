@@ -11,8 +11,8 @@ ghost use Rattle.ffi_numbers.specs.Numbers.{refusal_number, value_or, is_found, 
 
 use ffi_numbers::words;
 use pixel_segment::PixelSegment;
-use pixel_segment::order::Ordering;
 use segment_rows::{order, search};
+use std::cmp::Ordering;
 
 #[unsafe(no_mangle)]
 pub extern "C" fn ffi_pack(

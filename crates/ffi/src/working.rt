@@ -18,7 +18,8 @@ use cached_tile::kept::Kept;
 use ffi_numbers::{cached, rows};
 use pass_statements::decide::Decision;
 use passes::decide;
-use row_statements::{RowState, TileDone, WorkAnswer};
+use refusals::Refusal;
+use row_statements::{RowState, TileDone};
 
 pub fn code_of(decision: Decision) -> usize
     ensures { result ≡ code_of (decision_in decision) }
@@ -64,7 +65,7 @@ fn put_done(done: TileDone, told: &mut [usize; 4], bottom: &mut [f32; 4])
 }
 
 fn put_worked(
-    answer: WorkAnswer,
+    answer: Result<TileDone, Refusal>,
     state: RowState,
     after: Kept,
     words: &mut [u32; 6],
@@ -81,8 +82,8 @@ fn put_worked(
         told.old bottom.old) }
 {
     match answer {
-        WorkAnswer::Refused(refusal) => refusals::number_of(refusal),
-        WorkAnswer::Done(done) => {
+        Err(refusal) => refusals::number_of(refusal),
+        Ok(done) => {
             rows::put_state(state, words, counts);
             cached::put_kept(after, kept);
             put_done(done, told, bottom);

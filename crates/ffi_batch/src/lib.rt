@@ -8,7 +8,7 @@ ghost use Rattle.ffi_numbers.specs.Numbers.{refusal_number};
 ghost use Rattle.ffi_numbers.specs.Rows.{state_words, counts_of};
 ghost use Rattle.ffi_batch.specs.Batches.{queue_number, why_number, next_number, done_of, batch_numbers, numbers_by};
 
-use batch_statements::{Batch, BatchAnswer, End};
+use batch_statements::{Batch, End};
 use ffi_numbers::rows;
 
 fn queue_number(first: bool) -> usize
@@ -77,8 +77,8 @@ pub fn put_batch(
 {
     let answer = at.answer;
     match answer {
-        BatchAnswer::Refused(refusal) => refusals::number_of(refusal),
-        BatchAnswer::Ended(end) => {
+        Err(refusal) => refusals::number_of(refusal),
+        Ok(end) => {
             put_done(at, end, words, counts, done);
             0
         },

@@ -1,7 +1,7 @@
 -- A state written as numbers is read again as it was, a refusal's number is never 0, and an opening that tells 0 leaves what a run begins with. Assumes
 -- nothing.
-use Rattle.std.specs.Prelude.{◌≡◌, ◌||◌, ◌<◌}
-use Rattle.laws.proofs.Prelude.{refl, ap, sym, subst, ◌∙◌, Bool, true, false, not, cond, Option, some, none, ℕ, suc, arith, ltb}
+use Rattle.std.specs.Prelude.{◌≡◌, ◌||◌, ◌<◌, Ok}
+use Rattle.laws.proofs.Prelude.{refl, ap, sym, subst, ◌∙◌, Bool, true, false, not, cond, Option, Some, None, ℕ, suc, arith, ltb}
 use Rattle.laws.proofs.Prelude.{length, Answer, refused, given, plus}
 use Rattle.refusals.specs.Refusal.{Judgement, pass, refuse, unless, number_of}
 use Rattle.refusals.specs.declared.Refusal.{Refusal}
@@ -16,7 +16,6 @@ use Rattle.row_statements.specs.Opening.{OpenCall, left_of, has_bad_ends, open_v
 use Rattle.row_statements.specs.Due.{at_first}
 use Rattle.row_statements.specs.Run.{open_row}
 use Rattle.row_statements.specs.InnerHolding.{IsOpen, Holds}
-use Rattle.row_statements.specs.declared.Opened.TheVariants as opened
 use Rattle.row_statements.proofs.Run.{accepted, is_open, held_first_lem}
 use Rattle.row_statements.proofs.Runs.{state_out, state_back}
 use Rattle.ffi_numbers.specs.Numbers.{refusal_number}
@@ -26,8 +25,8 @@ use Rattle.ffi_calls.specs.Calls.{held_from, held_opened}
 -- ---- a state written as numbers and read again
 
 clip_again : (clip : Option ℕ) → clip_of (clip_flag clip) (clip_last clip) ≡ clip
-clip_again none = refl
-clip_again (some last) = refl
+clip_again None = refl
+clip_again (Some last) = refl
 
 abbrev with_clip_of : State → Option ℕ → State
 with_clip_of s clip = record { tile_y = s.tile_y; from = s.from; to = s.to; next = s.next; left = s.left; taken = s.taken; clip = clip }
@@ -94,7 +93,7 @@ module _ (c : OpenCall) (lent : Columns) where
         by : (a : Answer State) → (open_of c lent).answer ≡ a → 0 ≡ refusal_number a → new ≡ open_numbers a old → IsOpen (open_row c) × Holds (open_row c) at_first (held_from (held_opened new back))
         by (refused n) e number numbers = let above : 0 < n = refused_by n e in absurd (omega (arith, above, number))
         by (given s) e number numbers =
-            let g : OpensRow (open_of c lent) (opened.Row (state_out s)) back = record { answer = ap given (state_back s) ∙ sym e; lent_is = t.lent_is } in
+            let g : OpensRow (open_of c lent) (Ok (state_out s)) back = record { answer = ap given (state_back s) ∙ sym e; lent_is = t.lent_is } in
             let a = accepted c lent back (state_out s) g in
             let read : state_from new.words new.counts ≡ s = ap (λ (m : StateNumbers). state_from m.words m.counts) numbers ∙ state_again s in
             (is_open c lent back (state_out s) w a, subst (λ (x : State). Holds (open_row c) at_first (record { state = x; queue = back; taken = back })) (state_back s ∙ sym read) (held_first_lem c lent back (state_out s) w a))

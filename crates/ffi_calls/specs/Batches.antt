@@ -4,12 +4,11 @@
 -- row_statements/specs/Claim); a refused one is the first tile's refused work, tells its number, and all is as it was. A caller that sets the five numbers to
 -- 0 before a batch finds by the third which queue holds the carries, however the batch ended.
 -- proofs/Batches proves it.
-use Rattle.std.specs.Prelude.{◌≡◌, ◌∷◌, ◌*◌, ◌≤◌, ◌<◌}
+use Rattle.std.specs.Prelude.{◌≡◌, ◌∷◌, ◌*◌, ◌≤◌, ◌<◌, Option}
 use Rattle.laws.specs.Prelude.{true, false, List, [], ℕ, zero, suc, leb, get_or, Answer, refused, given}
 use Rattle.refusals.specs.Refusal.{pass}
 use Rattle.segment_rows.specs.Rows.{Words}
 use Rattle.styling.specs.declared.Color.{Color}
-use Rattle.layer_workbench.specs.declared.PreviousClear.{PreviousClear}
 use Rattle.row_statements.specs.Lent.{Columns}
 use Rattle.row_statements.specs.Opening.{OpenCall, open_of}
 use Rattle.row_statements.specs.TileWork.{work_lent, args_verdict}
@@ -121,7 +120,7 @@ pub record PassingBatch (o : OpenRow) (k : HeldNumbers) (tiles : ℕ) : Type 0 w
 
 abbrev pub BatchesExist : Type 0
 BatchesExist =
-    (c : OpenCall) (lent back : Columns) (old new : StateNumbers) (tiles : ℕ) (clear : Color) (previous : PreviousClear) →
+    (c : OpenCall) (lent back : Columns) (old new : StateNumbers) (tiles : ℕ) (clear : Color) (previous : Option Color) →
     Words c.row →
     OpenTold (open_of c lent) old 0 new back →
     (open_row c).from < (open_row c).to →

@@ -14,7 +14,7 @@ use cover_gpu::GpuCover;
 use ffi_numbers::four_high;
 use layer_row_gpu::LayerRow;
 use layer_row_gpu::tiles::{Ended, WorkedTiles};
-use refusals::Verdict;
+use refusals::Refusal;
 use styling::codes;
 
 pub fn to_layer_row(words: [u32; 6], covers: [i8; 4]) -> LayerRow
@@ -33,7 +33,7 @@ pub fn to_layer_row(words: [u32; 6], covers: [i8; 4]) -> LayerRow
 }
 
 pub fn put_layer_row(
-    answer: Verdict,
+    answer: Result<(), Refusal>,
     state: LayerRow,
     words: &mut [u32; 6],
     covers: &mut [i8; 4],
@@ -44,8 +44,8 @@ pub fn put_layer_row(
         (layer_numbers words.old covers.old) }
 {
     match answer {
-        Verdict::Refuse(refusal) => refusals::number_of(refusal),
-        Verdict::Pass => {
+        Err(refusal) => refusals::number_of(refusal),
+        Ok(()) => {
             let cover = state.cover;
             let bytes = cover.covers;
             let rule = state.rule;
@@ -87,12 +87,12 @@ fn end_refusal(ended: Ended) -> usize
     }
 }
 
-fn put_done(answer: Verdict, worked: usize, ended: Ended, done: &mut [usize; 3])
+fn put_done(answer: Result<(), Refusal>, worked: usize, ended: Ended, done: &mut [usize; 3])
     ensures { done.new ≡ done_by (judgement_in answer) worked (tiles_end_in ended) done.old }
 {
     match answer {
-        Verdict::Refuse(_) => {}
-        Verdict::Pass => {
+        Err(_) => {}
+        Ok(()) => {
             *done = [worked, end_number(ended), end_refusal(ended)];
         }
     }

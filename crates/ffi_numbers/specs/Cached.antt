@@ -1,6 +1,6 @@
 -- A cached tile as its eight bytes: the tag, the count's three, lowest first, and the colour's four.
 use Rattle.std.specs.Prelude.{◌∷◌}
-use Rattle.laws.specs.Prelude.{Bool, true, false, cond, List, [], Option, some, none, ℕ, get_or, Answer, refused, given}
+use Rattle.laws.specs.Prelude.{Bool, true, false, cond, List, [], Option, Some, None, ℕ, get_or, Answer, refused, given}
 use Rattle.cached_tile.specs.declared.CachedTile.{CachedTile}
 use Rattle.cached_tile.specs.declared.SolidColor.{SolidColor}
 use Rattle.cached_tile.specs.declared.kept.Kept.{Kept}
@@ -30,16 +30,16 @@ bytes_by k old = cond k.given (tile_bytes k.tile) old
 
 -- whether there is a value, and the value that a lent one then is
 abbrev pub is_some : {A : Type 0} → Option A → Bool
-is_some (some v) = true
-is_some none = false
+is_some (Some v) = true
+is_some None = false
 
 abbrev pub given_or : {A : Type 0} → Option A → A → A
-given_or (some v) old = v
-given_or none old = old
+given_or (Some v) old = v
+given_or None old = old
 
 -- a count or a colour that may be given
 abbrev pub count_if : Bool → ℕ → Option ℕ
-count_if is n = cond is (some n) none
+count_if is n = cond is (Some n) None
 
 abbrev pub color_if : Bool → List ℕ → SolidColor
 color_if is bytes = record { given = is; bytes = bytes }

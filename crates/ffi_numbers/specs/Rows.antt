@@ -1,6 +1,6 @@
 -- A row's state as numbers, six words and two counts, and its opening by them. Stands for 'a state passed by value' for callers that know no struct.
 use Rattle.std.specs.Prelude.{◌≡◌, ◌∷◌}
-use Rattle.laws.specs.Prelude.{cond, List, [], Option, some, none, ℕ, eqb, get_or, Answer, refused, given}
+use Rattle.laws.specs.Prelude.{cond, List, [], Option, Some, None, ℕ, eqb, get_or, Answer, refused, given}
 use Rattle.row_statements.specs.Lent.{Columns}
 use Rattle.row_statements.specs.State.{State}
 use Rattle.row_statements.specs.Opening.{OpenGiven}
@@ -10,12 +10,12 @@ use Rattle.ffi_numbers.specs.Numbers.{refusal_number}
 
 -- whether the painter has a clip, and the clip's last layer
 abbrev pub clip_flag : Option ℕ → ℕ
-clip_flag none = 0
-clip_flag (some last) = 1
+clip_flag None = 0
+clip_flag (Some last) = 1
 
 abbrev pub clip_last : Option ℕ → ℕ
-clip_last none = 0
-clip_last (some last) = last
+clip_last None = 0
+clip_last (Some last) = last
 
 -- tile y, from, to, the next tile, and the clip
 abbrev pub state_words : State → List ℕ
@@ -27,7 +27,7 @@ counts_of s = s.left ∷ s.taken ∷ []
 
 -- the state of such numbers; a flag other than 0 says that there is a clip
 abbrev pub clip_of : ℕ → ℕ → Option ℕ
-clip_of flag last = cond (eqb flag 0) none (some last)
+clip_of flag last = cond (eqb flag 0) None (Some last)
 
 abbrev pub state_from : List ℕ → List ℕ → State
 state_from words counts =

@@ -1,13 +1,12 @@
 // Cached tiles. A tile is lent as its eight bytes: the tag, the count's three, lowest first, and the colour's four.
 ghost use Rattle.std.specs.Prelude.{◌≡◌};
-ghost use Rattle.cached_tile.specs.Tile.{count_in};
 ghost use Rattle.cached_tile.specs.Kept.{settlement_of};
 ghost use Rattle.ffi_numbers.specs.Numbers.{refusal_number};
 ghost use Rattle.ffi_numbers.specs.Cached.{tile_from, tile_bytes, bytes_by, is_some, given_or, color_or};
 ghost use Rattle.ffi_numbers.specs.Cached.{written_or, settled_bytes};
 
 use cached_tile::kept::{Kept, Settlement};
-use cached_tile::{CachedTile, LayerCount, SolidColor};
+use cached_tile::{CachedTile, SolidColor};
 
 pub fn to_tile(bytes: [u8; 8]) -> CachedTile
     ensures { result ≡ tile_from bytes }
@@ -40,16 +39,16 @@ pub fn put_kept(kept: Kept, bytes: &mut [u8; 8])
 }
 
 // Whether there is a count; where there is one, it is written.
-pub fn put_count(previous: LayerCount, count: &mut u32) -> bool
-    ensures value { result ≡ is_some (count_in previous) }
-    ensures count_after { count.new ≡ given_or (count_in previous) count.old }
+pub fn put_count(previous: Option<u32>, count: &mut u32) -> bool
+    ensures value { result ≡ is_some previous }
+    ensures count_after { count.new ≡ given_or previous count.old }
 {
     match previous {
-        LayerCount::Count(n) => {
+        Some(n) => {
             *count = n;
             true
         },
-        LayerCount::Absent => false,
+        None => false,
     }
 }
 

@@ -1,19 +1,18 @@
 // Tiles four pixels high: what a painting answers, and a layer's rule.
 ghost use Rattle.std.specs.Prelude.{◌≡◌};
+ghost use Rattle.refusals.specs.Refusal.{given_or_refused};
 ghost use Rattle.styling.specs.Codes.{rule_code};
-ghost use Rattle.cover_gpu.specs.GpuPaint.{gpu_painted_answer};
 ghost use Rattle.ffi_numbers.specs.Numbers.{refusal_number};
 
-use cover_gpu::painting::GpuPainted;
+use refusals::Refusal;
 use styling::FillRule;
 
-pub fn painted_number(painted: GpuPainted) -> u32
-    ensures { result ≡ refusal_number (gpu_painted_answer painted) }
+pub fn painted_number(painted: Result<(), Refusal>) -> u32
+    ensures { result ≡ refusal_number (given_or_refused painted) }
 {
     match painted {
-        GpuPainted::Done => 0,
-        GpuPainted::PlaneTooShort => 1,
-        GpuPainted::CoverTooLarge => 9,
+        Ok(()) => 0,
+        Err(refusal) => refusals::number_of(refusal),
     }
 }
 

@@ -2,42 +2,34 @@
 // 1) and the clip's last layer; and beside them how many carries the queue has that is left, and how many the one had
 // that was taken in.
 ghost use Rattle.std.specs.Prelude.{◌≡◌};
-ghost use Rattle.painter.specs.Clip.{clip_in};
 ghost use Rattle.row_statements.specs.State.{state_in};
 ghost use Rattle.row_statements.specs.Opening.{opened_answer};
 ghost use Rattle.ffi_numbers.specs.Numbers.{refusal_number};
 ghost use Rattle.ffi_numbers.specs.Rows.{clip_flag, clip_last, clip_of, state_from, state_words, counts_of};
 ghost use Rattle.ffi_numbers.specs.Rows.{state_numbers, open_numbers};
 
-use painter::Clip;
-use row_statements::{Opened, RowState};
+use refusals::Refusal;
+use row_statements::RowState;
 
-fn clip_flag(clip: Clip) -> u32
-    ensures { result ≡ clip_flag (clip_in clip) }
+fn clip_flag(clip: Option<u32>) -> u32
+    ensures { result ≡ clip_flag clip }
 {
     match clip {
-        Clip::Absent => 0,
-        Clip::Until(_) => 1,
+        None => 0,
+        Some(_) => 1,
     }
 }
 
-fn clip_last(clip: Clip) -> u32
-    ensures { result ≡ clip_last (clip_in clip) }
+fn clip_last(clip: Option<u32>) -> u32
+    ensures { result ≡ clip_last clip }
 {
-    match clip {
-        Clip::Absent => 0,
-        Clip::Until(last) => last,
-    }
+    clip.unwrap_or(0)
 }
 
-fn to_clip(flag: u32, last: u32) -> Clip
-    ensures { clip_in result ≡ clip_of flag last }
+fn to_clip(flag: u32, last: u32) -> Option<u32>
+    ensures { result ≡ clip_of flag last }
 {
-    if flag == 0 {
-        Clip::Absent
-    } else {
-        Clip::Until(last)
-    }
+    if flag == 0 { None } else { Some(last) }
 }
 
 pub fn to_state(words: [u32; 6], counts: [usize; 2]) -> RowState
@@ -70,16 +62,20 @@ pub fn put_state(from: RowState, words: &mut [u32; 6], counts: &mut [usize; 2])
     *counts = [from.left, from.taken];
 }
 
-pub fn put_opened(opened: Opened, words: &mut [u32; 6], counts: &mut [usize; 2]) -> u32
+pub fn put_opened(
+    opened: Result<RowState, Refusal>,
+    words: &mut [u32; 6],
+    counts: &mut [usize; 2],
+) -> u32
     ensures value { result ≡ refusal_number (opened_answer opened) }
     ensures counts_after { state_numbers words.new counts.new
         ≡ open_numbers (opened_answer opened) (state_numbers words.old counts.old) }
 {
     match opened {
-        Opened::Row(state) => {
+        Ok(state) => {
             put_state(state, words, counts);
             0
         },
-        Opened::Refused(refusal) => refusals::number_of(refusal),
+        Err(refusal) => refusals::number_of(refusal),
     }
 }

@@ -1,12 +1,10 @@
 -- Any list of calls by numbers is that of edits. Assumes nothing.
-use Rattle.std.specs.Prelude.{◌≡◌, ◌∷◌, ◌+◌}
+use Rattle.std.specs.Prelude.{◌≡◌, ◌∷◌, ◌+◌, Result, Ok, Err}
 use Rattle.laws.proofs.Prelude.{refl, sym, ap, subst, ◌∙◌, Bool, true, false, not, List, ℕ, zero, suc, arith, leb, ltb, ℤ, length}
 use Rattle.laws.proofs.Prelude.{get_or, le-ltb, all}
 use Rattle.refusals.specs.Refusal.{Judgement, pass, refuse, unless, number_of, judgement_in}
 use Rattle.refusals.specs.declared.Refusal.{Refusal}
 use Rattle.refusals.specs.declared.Refusal.TheVariants.{Room, Row, Covers, NotHeld, Slots}
-use Rattle.refusals.specs.declared.Verdict.{Verdict}
-use Rattle.refusals.specs.declared.Verdict.TheVariants.{Pass, Refuse}
 use Rattle.pixel_segment.specs.Field.{cpu, local_y_of}
 use Rattle.cover_statements.specs.Carry.{abs_cover, is_light}
 use Rattle.segment_set_statements.specs.Set.{SetState, state, held_of, is_of, is_here, is_word_held, Beginning, nothing, beginning, begin_verdict, fresh_state}
@@ -24,15 +22,15 @@ use Rattle.ffi_sets.specs.SetCalls.SetCalls.{begun, taken, let_out_step, relent}
 -- ---- judgements that the code can say, and what their numbers tell
 
 record Said (j : Judgement) : Type 0 where
-  verdict : Verdict
+  verdict : Result Unit Refusal
   is : judgement_in verdict ≡ j
   zeroth : judged_number j ≡ 0 → j ≡ pass
 
 said_pass : Said pass
-said_pass = record { verdict = Pass; is = refl; zeroth = λ e. refl }
+said_pass = record { verdict = (Ok tt); is = refl; zeroth = λ e. refl }
 
 said_unless : (t : Bool) (r : Refusal) → (number_of r ≡ 0 → ⊥) → {below : Judgement} → Said below → Said (unless t (number_of r) below)
-said_unless true r n s = record { verdict = Refuse r; is = refl; zeroth = λ e. absurd (n e) }
+said_unless true r n s = record { verdict = Err r; is = refl; zeroth = λ e. absurd (n e) }
 said_unless false r n s = s
 
 -- the table of beginning and of taking in

@@ -8,7 +8,7 @@ ghost use Rattle.ffi_numbers.specs.Numbers.{judged_number};
 ghost use Rattle.ffi_sets.specs.Sets.{set_place, placed_by, set_numbers, edited_numbers, set_from};
 
 use cover::Cover;
-use refusals::Verdict;
+use refusals::Refusal;
 use segment_set_statements::SegmentSet;
 
 // The set of such numbers.
@@ -32,13 +32,18 @@ pub fn to_set(
 }
 
 // The layer and the tile of a set that was begun; a refusal leaves them as they were.
-pub fn put_place(verdict: Verdict, set: SegmentSet, layer: &mut u32, tile: &mut [i16; 2])
+pub fn put_place(
+    verdict: Result<(), Refusal>,
+    set: SegmentSet,
+    layer: &mut u32,
+    tile: &mut [i16; 2],
+)
     ensures { set_place layer.new tile.new
         ≡ placed_by (judgement_in verdict) set (set_place layer.old tile.old) }
 {
     match verdict {
-        Verdict::Refuse(_) => {},
-        Verdict::Pass => {
+        Err(_) => {},
+        Ok(()) => {
             *layer = set.layer_id;
             *tile = [set.tile_x, set.tile_y];
         },
@@ -47,7 +52,7 @@ pub fn put_place(verdict: Verdict, set: SegmentSet, layer: &mut u32, tile: &mut 
 
 // 0 and what an edit leaves, or the number of its refusal.
 pub fn put_edited(
-    verdict: Verdict,
+    verdict: Result<(), Refusal>,
     set: SegmentSet,
     carry: &mut [i8; 16],
     loads: &mut [u16; 16],
@@ -59,8 +64,8 @@ pub fn put_edited(
         (set_numbers carry.old loads.old count.old) }
 {
     match verdict {
-        Verdict::Refuse(refusal) => refusals::number_of(refusal),
-        Verdict::Pass => {
+        Err(refusal) => refusals::number_of(refusal),
+        Ok(()) => {
             let cover = set.carry;
             let covers = cover.covers;
             let set_loads = set.loads;

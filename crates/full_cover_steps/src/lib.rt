@@ -3,7 +3,6 @@
 #![tactic(auto)]
 
 ghost use Rattle.std.specs.Prelude.{◌≡◌};
-ghost use Rattle.styling.specs.Style.{color_in};
 ghost use Rattle.pass_statements.specs.Covered.{first_of, opaque_of, is_partial, hides as hidesOf, tells as tellsOf};
 ghost use Rattle.pass_statements.specs.Covered.{skip_to, look_at};
 ghost use Rattle.pass_statements.specs.Decide.{bottom_of};
@@ -12,7 +11,7 @@ use pass_statements::Index;
 use pass_statements::covered::{Covered, InterestingCover};
 use pass_statements::decide::{Bottom, Decision};
 use pass_statements::item::Item;
-use styling::{Color, Paint};
+use styling::Color;
 
 fn first_of(first: InterestingCover, next: InterestingCover) -> InterestingCover
     ensures { result ≡ first_of first next }
@@ -24,12 +23,12 @@ fn first_of(first: InterestingCover, next: InterestingCover) -> InterestingCover
     }
 }
 
-fn to_opaque(paint: Paint) -> InterestingCover
-    ensures { result ≡ opaque_of (color_in paint) }
+fn to_opaque(paint: Option<Color>) -> InterestingCover
+    ensures { result ≡ opaque_of paint }
 {
     match paint {
-        Paint::Color(color) => InterestingCover::Opaque(color),
-        Paint::Absent => InterestingCover::Incomplete,
+        Some(color) => InterestingCover::Opaque(color),
+        None => InterestingCover::Incomplete,
     }
 }
 

@@ -11,11 +11,7 @@ use std::io::Read;
 pub fn front(buffer: &[u8], n: usize) -> &[u8]
     ensures { result.now ≡ take n buffer.now }
 {
-    if n < buffer.len() {
-        &buffer[..n]
-    } else {
-        buffer
-    }
+    &buffer[..n.min(buffer.len())]
 }
 
 // Reads until the buffer is full or the input ends, and answers how many bytes it put at the front of the buffer. What

@@ -3,8 +3,8 @@
 
 ghost use Rattle.job_statements.specs.Read.{LinesJudged, job_outcome_on, Left, JobRead};
 
-use job_statements::Reading;
-use job_text_statements::{Head, Numbers};
+use job_statements::{JobError, Numbers};
+use job_text_statements::Head;
 
 // Writes a job whose numbers are read and judged: the table and the row, where there is room for both.
 fn write_job(
@@ -17,7 +17,7 @@ fn write_job(
     layers: &mut [u32],
     colors: &mut [f32],
     row: &mut [u64],
-) -> Reading
+) -> Result<Numbers, JobError>
     requires { LinesJudged layer_numbers.now n segment_numbers.now m count }
     ensures { Left (job_outcome_on head layer_numbers.now n segment_numbers.now m
         layers.old colors.old row.old)
@@ -26,38 +26,46 @@ fn write_job(
 {
     let has_room = (n <= layers.len() / 8) & (n <= colors.len() / 4) & (count <= row.len());
     if !has_room {
-        return Reading::NoRoom;
+        return Err(JobError::NoRoom);
     }
     job_table::write_words(layer_numbers, n, layers);
     job_table::write_colors(layer_numbers, n, colors);
     job_row::write_row(segment_numbers, m, head.row, row);
-    Reading::Accepted(head, n, count)
+    Ok(Numbers {
+        head,
+        layers: n,
+        segments: count,
+    })
 }
 
 // Reads a job text. Refusal 10, and arrays that are too short, leave every array as it was.
-pub fn read_job(text: &[u8], layers: &mut [u32], colors: &mut [f32], row: &mut [u64]) -> Reading
+pub fn read_job(
+    text: &[u8],
+    layers: &mut [u32],
+    colors: &mut [f32],
+    row: &mut [u64],
+) -> Result<Numbers, JobError>
     ensures { JobRead text.now layers.old colors.old row.old result
         layers.new colors.new row.new }
 {
     let mut head_numbers = [0i32; 4];
     let mut layer_numbers = [0i32; 512];
     let mut segment_numbers = [0i32; 3584];
-    let Numbers::Job(n, m, count) = job_text::read_numbers(
+    let counts = job_text::read_numbers(
         text,
         &mut head_numbers,
         &mut layer_numbers,
         &mut segment_numbers,
-    ) else {
-        return Reading::Malformed;
-    };
+    )
+    .ok_or(JobError::Malformed)?;
     let head = job_text::head_of(&head_numbers);
     write_job(
         head,
         &layer_numbers,
-        n,
+        counts.layers,
         &segment_numbers,
-        m,
-        count,
+        counts.lines,
+        counts.segments,
         layers,
         colors,
         row,

@@ -1,15 +1,16 @@
 -- The first 65,537 bytes of an input decide the job that it is: a longer text is none, and so is its front.
 -- Assumes nothing.
-use Rattle.std.specs.Prelude.{◌≡◌, ◌≤◌, ◌<◌}
-use Rattle.laws.proofs.Prelude.{sym, ap, subst, ◌∙◌, ⊎_elim, List, none, ℕ, arith, lt-ltb, Float, length, take, length-take-le}
+use Rattle.std.specs.Prelude.{◌≡◌, ◌≤◌, ◌<◌, Result}
+use Rattle.laws.proofs.Prelude.{sym, ap, subst, ◌∙◌, ⊎_elim, List, None, ℕ, arith, lt-ltb, Float, length, take, length-take-le}
 use Rattle.laws.proofs.Prelude.{take_all, le_or_lt}
 use Rattle.job_text_statements.specs.Parse.{parse_blocks, parse}
 use Rattle.job_statements.specs.Read.{JobOutcome, outcome_by, job_outcome, Left, JobRead}
-use Rattle.job_statements.specs.declared.Reading.{Reading}
+use Rattle.job_statements.specs.declared.JobError.{JobError}
+use Rattle.job_statements.specs.declared.Numbers.{Numbers}
 use Rattle.job_statements.proofs.Outcomes.{refuses}
 use Rattle.job_front.specs.Front.{input_room, FrontDecides}
 
-long_text : (text : List ℕ) → 65536 < length text → parse text ≡ none
+long_text : (text : List ℕ) → 65536 < length text → parse text ≡ None
 unfolding parse parse_blocks
 long_text text h = rw (lt-ltb 65536 (length text) h)
 
@@ -27,7 +28,7 @@ module _ (part whole layers : List ℕ) (colors : List Float) (row : List ℕ) (
   unfolding job_outcome
   same_outcome = ap (outcome_by layers colors row) (ap parse e ∙ front_decides whole)
 
-  read_whole : {r : Reading} {layers' : List ℕ} {colors' : List Float} {row' : List ℕ} → JobRead part layers colors row r layers' colors' row'
+  read_whole : {r : Result Numbers JobError} {layers' : List ℕ} {colors' : List Float} {row' : List ℕ} → JobRead part layers colors row r layers' colors' row'
       → JobRead whole layers colors row r layers' colors' row'
   read_whole {r} {layers'} {colors'} {row'} g =
       ⊎_elim
@@ -40,6 +41,6 @@ module _ (part whole layers : List ℕ) (colors : List Float) (row : List ℕ) (
       })
       (le_or_lt (length whole) 65536)
 
-pub reads_whole : {part whole layers : List ℕ} {colors : List Float} {row : List ℕ} {r : Reading} {layers' : List ℕ} {colors' : List Float} {row' : List ℕ}
+pub reads_whole : {part whole layers : List ℕ} {colors : List Float} {row : List ℕ} {r : Result Numbers JobError} {layers' : List ℕ} {colors' : List Float} {row' : List ℕ}
     → JobRead part layers colors row r layers' colors' row' → part ≡ take input_room whole → JobRead whole layers colors row r layers' colors' row'
 reads_whole g e = read_whole _ _ _ _ _ e g

@@ -5,7 +5,7 @@ ghost use Rattle.std.specs.Prelude.{List, ℕ};
 ghost use Rattle.input_front.specs.Front.{HoldsFront};
 ghost use Rattle.job_statements.specs.Read.{JobRead};
 
-use job_statements::Reading;
+use job_statements::{JobError, Numbers};
 
 // Reads the job of an input of which the first 65,537 bytes were read, n of them being there: they decide it.
 pub fn read_front(
@@ -14,7 +14,7 @@ pub fn read_front(
     layers: &mut [u32],
     colors: &mut [f32],
     row: &mut [u64],
-) -> Reading
+) -> Result<Numbers, JobError>
     ensures { (whole : List ℕ) → HoldsFront buffer.now n whole
         → JobRead whole layers.old colors.old row.old result
         layers.new colors.new row.new }

@@ -3,7 +3,7 @@ ghost use Rattle.std.specs.Prelude.{◌≡◌};
 ghost use Rattle.job_lines.specs.Rules.{segment_rule};
 
 use crate::range::is_within;
-use pixel_segment::{Packed, PixelSegment};
+use pixel_segment::PixelSegment;
 
 #[derive(Clone, Copy)]
 pub struct SegmentLine {
@@ -31,7 +31,7 @@ pub fn is_segment(s: SegmentLine) -> bool
         s.cover as i64,
     );
     match packed {
-        Packed::Segment(_) => is_within(s.rows, 1, 16 - s.y),
-        Packed::FieldOutOfRange => false,
+        Ok(_) => is_within(s.rows, 1, 16 - s.y),
+        Err(_) => false,
     }
 }

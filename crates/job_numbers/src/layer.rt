@@ -28,10 +28,8 @@ pub fn are_layers(numbers: &[i32], n: usize) -> bool
     ensures { result ≡ all layer_rule (layer_lines numbers.now n) }
 {
     let mut ok = true;
-    let mut i: usize = 0;
-    while i < n {
-        ok = is_layer(layer_at(numbers, i)) & ok;
-        i += 1;
+    for i in 0..n {
+        ok &= is_layer(layer_at(numbers, i));
     }
     ok
 }

@@ -28,10 +28,8 @@ pub fn are_segments(numbers: &[i32], m: usize) -> bool
     ensures { result ≡ all segment_rule (segments_in numbers.now m) }
 {
     let mut ok = true;
-    let mut i: usize = 0;
-    while i < m {
-        ok = is_segment(segment_at(numbers, i)) & ok;
-        i += 1;
+    for i in 0..m {
+        ok &= is_segment(segment_at(numbers, i));
     }
     ok
 }
@@ -49,10 +47,8 @@ pub fn count_segments(numbers: &[i32], m: usize) -> usize
     ensures { result ≡ segment_count (segments_in numbers.now m) }
 {
     let mut count: usize = 0;
-    let mut i: usize = 0;
-    while i < m {
+    for i in 0..m {
         count += repeats(segment_at(numbers, i));
-        i += 1;
     }
     count
 }

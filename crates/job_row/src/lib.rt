@@ -11,7 +11,7 @@ ghost use Rattle.job_statements.specs.Entries.{fields_of, packed, is_packable_at
 
 use job_lines::segment::SegmentLine;
 use job_statements::row::Fields;
-use pixel_segment::{Packed, PixelSegment};
+use pixel_segment::PixelSegment;
 
 fn to_fields(s: SegmentLine) -> Fields
     requires { segment_rule s ≡ true }
@@ -33,8 +33,8 @@ fn to_tile_y(row: i32) -> i16
     ensures { result ≡ row_tile row }
 {
     match PixelSegment::pack(0, 0, row as i64, 0, 0, 0, 0) {
-        Packed::Segment(segment) => segment.tile_y(),
-        Packed::FieldOutOfRange => -1,
+        Ok(segment) => segment.tile_y(),
+        Err(_) => -1,
     }
 }
 
@@ -44,8 +44,8 @@ fn pack(f: Fields, tile_y: i16, i: u8) -> u64
     ensures { result ≡ packed f tile_y i }
 {
     match PixelSegment::new(f.layer, f.tile_x, tile_y, f.x, f.y + i, f.mult, f.cover) {
-        Packed::Segment(segment) => segment.0,
-        Packed::FieldOutOfRange => 0,
+        Ok(segment) => segment.0,
+        Err(_) => 0,
     }
 }
 
@@ -55,12 +55,10 @@ fn write_segment(s: SegmentLine, tile_y: i16, row: &mut [u64], at: usize) -> usi
     ensures { SegmentWritten tile_y s row.old at result row.new }
 {
     let f = to_fields(s);
-    let mut i: u8 = 0;
-    while i < f.rows {
+    for i in 0..f.rows {
         row[at + i as usize] = pack(f, tile_y, i);
-        i += 1;
     }
-    at + i as usize
+    at + f.rows as usize
 }
 
 pub fn write_row(numbers: &[i32], m: usize, number: i32, row: &mut [u64])
@@ -71,14 +69,12 @@ pub fn write_row(numbers: &[i32], m: usize, number: i32, row: &mut [u64])
 {
     let tile_y = to_tile_y(number);
     let mut at: usize = 0;
-    let mut i: usize = 0;
-    while i < m {
+    for i in 0..m {
         at = write_segment(
             job_numbers::segment::segment_at(numbers, i),
             tile_y,
             row,
             at,
         );
-        i += 1;
     }
 }

@@ -1,8 +1,8 @@
 -- What holds while a lent list is filled from the front, an entry a turn, with f 0, f 1, ..: laws of use for any such loop.
 -- Assumes nothing.
 use Rattle.std.specs.Prelude.{◌≡◌, ◌+◌, ◌<◌, ◌≤◌}
-use Rattle.laws.proofs.Prelude.{refl, sym, ap, ◌∙◌, List, ℕ, arith, length, get_or, set, tabulate, over, length_tabulate}
-use Rattle.laws.proofs.Prelude.{get_d_tabulate, filled, length_filled, filled_more, filled_all}
+use Rattle.laws.proofs.Prelude.{sym, ap, ◌∙◌, List, ℕ, arith, length, get_or, set, tabulate, over, length_tabulate}
+use Rattle.laws.proofs.Prelude.{get_d_tabulate, filled, filled_more, filled_all}
 
 module _ {A : Type 0} (n : ℕ) (f : ℕ → A) where
   pub record Filling (old : List A) (k : ℕ) (new : List A) : Type 0 where
@@ -10,13 +10,7 @@ module _ {A : Type 0} (n : ℕ) (f : ℕ → A) where
     pub room : n ≤ length old
     pub so_far : new ≡ filled old (tabulate n f) k
 
-  pub start : {old : List A} → n ≤ length old → Filling old 0 old
-  start h = record { within = omega arith; room = h; so_far = refl }
-
   module _ {old : List A} {k : ℕ} {new : List A} (v : Filling old k new) where
-    pub long : length new ≡ length old
-    long = ap length v.so_far ∙ length_filled old (tabulate n f) k (omega (arith, v.within, v.room)) (omega (arith, v.within, length_tabulate n f))
-
     pub next : {a : A} → k < n → a ≡ f k → Filling old (k + 1) (set new k a)
     next {a} h e =
         let entry : a ≡ get_or (tabulate n f) k a = e ∙ sym (get_d_tabulate n f a k h) in

@@ -8,7 +8,6 @@ use Rattle.decimal.proofs.Print.{sets_append}
 use Rattle.job_lines.specs.declared.segment.SegmentLine.{SegmentLine}
 use Rattle.job_lines.specs.Rules.{segment_rule, segment_count}
 use Rattle.job_text_statements.specs.Numbers.{segment_at, segments_in}
-use Rattle.job_lines.proofs.Ranges.{in_tile}
 use Rattle.job_text_statements.proofs.Counting.{count_step}
 use Rattle.job_statements.specs.declared.row.Fields.{Fields}
 use Rattle.job_statements.specs.Row.{segment_word, segment_words, is_tile_y, row_tile, row_words}
@@ -24,13 +23,7 @@ pub record Repeating (ty : ℤ) (f : Fields) (old : List ℕ) (at i : ℕ) (new 
   pub so_far : new ≡ sets old at (tabulate i (packed f ty))
 
 module _ {ty : ℤ} {f : Fields} {old : List ℕ} {at : ℕ} where
-  pub first : at + f.rows ≤ length old → Repeating ty f old at 0 old
-  first h = record { within = omega arith; room = h; so_far = refl }
-
   module _ {i : ℕ} {new : List ℕ} (v : Repeating ty f old at i new) where
-    pub long : length new ≡ length old
-    long = ap length v.so_far ∙ length-sets old at (tabulate i (packed f ty))
-
     pub repeat : {w : ℕ} → i < f.rows → w ≡ packed f ty i → Repeating ty f old at (i + 1) (set new (at + i) w)
     repeat {w} h e =
         let ws = tabulate i (packed f ty) in
@@ -62,9 +55,6 @@ module _ {f : Fields} (s : SegmentLine) (e : f ≡ fields_of s) (ok : segment_ru
   rows_are : f.rows ≡ plus s.rows
   rows_are = ap (λ (g : Fields). g.rows) e
 
-  pub few_rows : (f.rows ≡ plus s.rows) × (f.rows ≤ 16)
-  few_rows = (rows_are, omega (arith, rows_are, in_tile s ok))
-
   pub packs_at : (ty : ℤ) (i : ℕ) → is_tile_y ty ≡ true → i < f.rows → is_packable_at f ty i ≡ true
   packs_at ty i h l = subst (λ (g : Fields). is_packable_at g ty i ≡ true) (sym e) (packs_line s ok ty h i (omega (arith, rows_are)))
 
@@ -85,9 +75,6 @@ pub record Writing (r : ℤ) (ns : List ℤ) (m : ℕ) (old : List ℕ) (at i : 
   pub rest : sets new at (row_words r (drop i (segments_in ns m))) ≡ sets old 0 (row_words r (segments_in ns m))
 
 module _ {r : ℤ} {ns : List ℤ} {m : ℕ} {old : List ℕ} where
-  pub start : segment_count (segments_in ns m) ≤ length old → Writing r ns m old 0 0 old
-  start h = record { within = omega arith; room = h; long = refl; place = omega arith; rest = refl }
-
   module _ {at i : ℕ} {new : List ℕ} (v : Writing r ns m old at i new) where
     pub end : m ≤ i → new ≡ over (row_words r (segments_in ns m)) old
     unfolding row_words over flatten

@@ -1,10 +1,11 @@
 -- What `read_job` promises: its answer, and all three lent arrays at exit.
-use Rattle.std.specs.Prelude.{◌≡◌, ◌&&◌, ◌*◌, ◌/◌, ◌≤◌}
-use Rattle.laws.specs.Prelude.{Bool, true, false, cond, List, [], Option, some, none, ℕ, leb, Float, ℤ, length, Answer}
+use Rattle.std.specs.Prelude.{◌≡◌, ◌&&◌, ◌*◌, ◌/◌, ◌≤◌, Result, Ok, Err}
+use Rattle.laws.specs.Prelude.{Bool, true, false, cond, List, [], Option, Some, None, ℕ, leb, Float, ℤ, length, Answer}
 use Rattle.laws.specs.Prelude.{refused, given, over, all}
 use Rattle.job_text_statements.specs.declared.Head.{Head}
-use Rattle.job_statements.specs.declared.Reading.{Reading}
-use Rattle.job_statements.specs.declared.Reading.TheVariants.{Accepted, NoRoom, Malformed}
+use Rattle.job_statements.specs.declared.JobError.{JobError}
+use Rattle.job_statements.specs.declared.JobError.TheVariants.{NoRoom, Malformed}
+use Rattle.job_statements.specs.declared.Numbers.{Numbers}
 use Rattle.job_lines.specs.Rules.{layer_rule, segment_rule, segment_count}
 use Rattle.job_text_statements.specs.Job.{Job, render, WellFormed, Prints}
 use Rattle.job_text_statements.specs.Parse.{parse}
@@ -24,29 +25,23 @@ pub data JobOutcome : Type 0 where
   malformed : JobOutcome
 
 abbrev pub outcome_by : List ℕ → List Float → List ℕ → Option Job → JobOutcome
-outcome_by layers colors row none = malformed
-outcome_by layers colors row (some j) = cond (has_room layers colors row j) (accepted j) (no_room j)
+outcome_by layers colors row None = malformed
+outcome_by layers colors row (Some j) = cond (has_room layers colors row j) (accepted j) (no_room j)
 
 unfoldable pub job_outcome : List ℕ → List ℕ → List Float → List ℕ → JobOutcome
 job_outcome text layers colors row = outcome_by layers colors row (parse text)
 
 -- ---- the answer
 
--- the numbers of block 1, how many layers there are, and how many segments
-pub record Numbers : Type 0 where
-  pub head : Head
-  pub layers : ℕ
-  pub segments : ℕ
-
 -- the cases of the code's answer: the numbers, none where a lent array is too short, or refusal 10
-abbrev pub reading_answer : Reading → Answer (Option Numbers)
-reading_answer (Accepted h n m) = given (some (record { head = h; layers = n; segments = m }))
-reading_answer NoRoom = given none
-reading_answer Malformed = refused 10
+abbrev pub reading_answer : Result Numbers JobError → Answer (Option Numbers)
+reading_answer (Ok x) = given (Some x)
+reading_answer (Err NoRoom) = given None
+reading_answer (Err Malformed) = refused 10
 
 abbrev pub answer_to : JobOutcome → Answer (Option Numbers)
-answer_to (accepted j) = given (some (record { head = j.head; layers = length j.layers; segments = segment_count j.segments }))
-answer_to (no_room j) = given none
+answer_to (accepted j) = given (Some (record { head = j.head; layers = length j.layers; segments = segment_count j.segments }))
+answer_to (no_room j) = given None
 answer_to malformed = refused 10
 
 -- ---- what is written to each array
@@ -76,13 +71,13 @@ Says text layers colors row malformed = (j : Job) → WellFormed j → text ≡ 
 -- ---- the promises
 
 -- what an outcome leaves: the answer, and each array
-pub record Left (o : JobOutcome) (layers : List ℕ) (colors : List Float) (row : List ℕ) (r : Reading) (layers' : List ℕ) (colors' : List Float) (row' : List ℕ) : Type 0 where
+pub record Left (o : JobOutcome) (layers : List ℕ) (colors : List Float) (row : List ℕ) (r : Result Numbers JobError) (layers' : List ℕ) (colors' : List Float) (row' : List ℕ) : Type 0 where
   pub answer : reading_answer r ≡ answer_to o
   pub words_written : layers' ≡ over (words_to o) layers
   pub colors_written : colors' ≡ over (colors_to o) colors
   pub row_written : row' ≡ over (row_to o) row
 
-pub record JobRead (text layers : List ℕ) (colors : List Float) (row : List ℕ) (r : Reading) (layers' : List ℕ) (colors' : List Float) (row' : List ℕ) : Type 0 where
+pub record JobRead (text layers : List ℕ) (colors : List Float) (row : List ℕ) (r : Result Numbers JobError) (layers' : List ℕ) (colors' : List Float) (row' : List ℕ) : Type 0 where
   pub says : Says text layers colors row (job_outcome text layers colors row)
   pub left : Left (job_outcome text layers colors row) layers colors row r layers' colors' row'
 
@@ -98,4 +93,4 @@ pub record LinesJudged (layers : List ℤ) (n : ℕ) (segments : List ℤ) (m co
 
 abbrev pub job_outcome_on : Head → List ℤ → ℕ → List ℤ → ℕ → List ℕ → List Float → List ℕ → JobOutcome
 job_outcome_on head ls n ss m layers colors row =
-    outcome_by layers colors row (some (record { head = head; layers = layer_lines ls n; segments = segments_in ss m }))
+    outcome_by layers colors row (Some (record { head = head; layers = layer_lines ls n; segments = segments_in ss m }))

@@ -13,7 +13,7 @@ ghost use Rattle.job_statements.specs.Entries.{word_at, job_color_at};
 fn to_word(v: i32) -> u32
     ensures { result ≡ pattern v }
 {
-    ((v as i64 + 4294967296) as u64 % 4294967296) as u32
+    v.cast_unsigned()
 }
 
 // A word of the table: the number in its place, but 0 (not unchanged) for alpha.
@@ -29,10 +29,8 @@ pub fn write_words(numbers: &[i32], n: usize, layers: &mut [u32])
     ensures { layers.new ≡ over (table_words (layer_lines numbers.now n))
         layers.old }
 {
-    let mut k: usize = 0;
-    while k < 8 * n {
+    for k in 0..8 * n {
         layers[k] = word_at(numbers, k);
-        k += 1;
     }
 }
 
@@ -63,9 +61,7 @@ pub fn write_colors(numbers: &[i32], n: usize, colors: &mut [f32])
     ensures { colors.new ≡ over (table_colors (layer_lines numbers.now n))
         colors.old }
 {
-    let mut k: usize = 0;
-    while k < 4 * n {
+    for k in 0..4 * n {
         colors[k] = color_at(numbers, k);
-        k += 1;
     }
 }

@@ -21,9 +21,6 @@ pub record Counting (ns : List ℤ) (m i count : ℕ) : Type 0 where
   pub low : count ≤ 16 * i
   pub rest : count + segment_count (drop i (segments_in ns m)) ≡ segment_count (segments_in ns m)
 
-pub start : (ns : List ℤ) (m : ℕ) → Counting ns m 0 0
-start ns m = record { within = omega arith; low = omega arith; rest = omega arith }
-
 -- line i keeps the rules
 pub rule_at : (ns : List ℤ) (m i : ℕ) → all segment_rule (segments_in ns m) ≡ true → i < m → segment_rule (segment_at ns i) ≡ true
 rule_at ns m i e h =

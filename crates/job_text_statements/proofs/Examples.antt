@@ -1,7 +1,7 @@
 -- Document 01's job, as the text that it prints and as what is read of it; and the edges of the rules, tried on short texts.
 -- Assumes nothing.
 use Rattle.std.specs.Prelude.{◌≡◌, ◌∷◌, ◌++◌}
-use Rattle.laws.proofs.Prelude.{refl, Bool, true, false, not, List, [], some, none, ℕ, zero, suc, pos, negsuc, is_within, all}
+use Rattle.laws.proofs.Prelude.{refl, Bool, true, false, not, List, [], Some, None, ℕ, zero, suc, pos, negsuc, is_within, all}
 use Prim.Native.String.{String}
 use Rattle.decimal.specs.Decimal.{decimal, decimal_in}
 use Rattle.decimal.specs.Parse.{parseℤ, parseℕ, more_digits}
@@ -29,13 +29,13 @@ unfolding render blocks_text block_text lines_text line_text decimal decimal_in
 printed = refl
 
 pub is_read : List ℕ → Bool
-is_read s = elim (parse s) [ some j ↦ true | none ↦ false ]
+is_read s = elim (parse s) [ Some j ↦ true | None ↦ false ]
 
 -- the text with the layers and the segments given
 pub job : String → String → List ℕ
 job layers segments = bytes "row tiles from to\n0 4 0 4\n" ++ (layer_names ++ (bytes layers ++ (segment_names ++ bytes segments)))
 
-pub read : parse (job "1 0 0 0 0 0 0 256\n" "0 1 0 0 16 32 16\n2 1 8 0 16 32 -16\n") ≡ some example
+pub read : parse (job "1 0 0 0 0 0 0 256\n" "0 1 0 0 16 32 16\n2 1 8 0 16 32 -16\n") ≡ Some example
 unfolding job parse parse_blocks parse_block strip_prefix parse_lines parse_line parseℤ parseℕ more_digits is_allowed layer_rule segment_rule is_packable is_within segment_count
 read = refl
 

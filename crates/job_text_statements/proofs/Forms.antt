@@ -1,7 +1,7 @@
 -- Reading the three blocks is the inverse of printing them: `parse_blocks` takes exactly the texts of well-formed blocks.
 -- Assumes nothing.
 use Rattle.std.specs.Prelude.{◌≡◌, ◌∷◌, ◌++◌, ◌≤◌, ◌<◌}
-use Rattle.laws.proofs.Prelude.{refl, sym, ap, ◌∙◌, subst, false, List, [], append-nil, Option, some, none, ℕ, dec_lt, arith}
+use Rattle.laws.proofs.Prelude.{refl, sym, ap, ◌∙◌, subst, false, List, [], append-nil, Option, Some, None, ℕ, dec_lt, arith}
 use Rattle.laws.proofs.Prelude.{eq-eqb, ne_eqb, eqb-true, eqb-false, lt-ltb, le-ltb, eqb, ℤ, length}
 use Rattle.decimal.proofs.Steps.{cases}
 use Rattle.lines.specs.Text.{block_text, AllFields}
@@ -12,7 +12,7 @@ use Rattle.job_text_statements.specs.Parse.{after_segments, after_layers, after_
 
 -- ---- the steps of `parse_blocks`
 
-pub too_long : (s : List ℕ) → 65536 < length s → parse_blocks s ≡ none
+pub too_long : (s : List ℕ) → 65536 < length s → parse_blocks s ≡ None
 unfolding parse_blocks
 too_long s h = rw (lt-ltb 65536 (length s) h)
 
@@ -21,10 +21,10 @@ unfolding parse_blocks
 not_long s h = rw (le-ltb 65536 (length s) h)
 
 pub one_line : (h : List (List ℤ)) (t : List ℕ) → length h ≡ 1
-    → after_head h (some t) ≡ after_layers h (parse_block layer_names 64 8 t).lines (parse_block layer_names 64 8 t).rest
+    → after_head h (Some t) ≡ after_layers h (parse_block layer_names 64 8 t).lines (parse_block layer_names 64 8 t).rest
 one_line h t e = rw (eq-eqb (length h) 1 e)
 
-pub other_lines : (h : List (List ℤ)) (t : List ℕ) → (length h ≡ 1 → ⊥) → after_head h (some t) ≡ none
+pub other_lines : (h : List (List ℤ)) (t : List ℕ) → (length h ≡ 1 → ⊥) → after_head h (Some t) ≡ None
 other_lines h t e = rw (ne_eqb (length h) 1 e)
 
 -- ---- every print is read
@@ -37,16 +37,16 @@ segments_come : (ls : List (List ℤ)) → starts_number (block_text segment_nam
 unfolding block_text
 segments_come ls = refl
 
-pub complete : (b : Blocks) → Formed b → parse_blocks (blocks_text b) ≡ some b
+pub complete : (b : Blocks) → Formed b → parse_blocks (blocks_text b) ≡ Some b
 unfolding blocks_text
 complete b w =
     let segs = block_text segment_names b.segments in
     let rest = block_text layer_names b.layers ++ segs in
-    let b1 : parse_block head_names 1 4 (block_text head_names b.head ++ rest) ≡ record { lines = b.head; rest = some rest }
+    let b1 : parse_block head_names 1 4 (block_text head_names b.head ++ rest) ≡ record { lines = b.head; rest = Some rest }
     = block_complete head_names 1 3 b.head rest (omega (arith, w.one_head)) w.head (layers_come b.layers segs) in
-    let b2 : parse_block layer_names 64 8 (block_text layer_names b.layers ++ segs) ≡ record { lines = b.layers; rest = some segs }
+    let b2 : parse_block layer_names 64 8 (block_text layer_names b.layers ++ segs) ≡ record { lines = b.layers; rest = Some segs }
     = block_complete layer_names 64 7 b.layers segs w.few_layers w.layers (segments_come b.segments) in
-    let b3 : parse_block segment_names 512 7 segs ≡ record { lines = b.segments; rest = some [] }
+    let b3 : parse_block segment_names 512 7 segs ≡ record { lines = b.segments; rest = Some [] }
     = ap (parse_block segment_names 512 7) (sym (append-nil segs)) ∙ block_complete segment_names 512 6 b.segments [] w.few_lines w.segments refl in
     not_long (blocks_text b) w.size
     ∙ ap (λ (p : ParsedLines). after_head p.lines p.rest) b1
@@ -56,7 +56,7 @@ complete b w =
 
 -- ---- what is read was printed
 
-pub never : {A : Type 0} {P : Type 0} {o : Option A} {a : A} → o ≡ none → o ≡ some a → P
+pub never : {A : Type 0} {P : Type 0} {o : Option A} {a : A} → o ≡ None → o ≡ Some a → P
 never p q = let z : ◌≡◌ {A = ℕ} 0 1 = cc in absurd (omega arith)
 
 -- blocks that are read, and the text that they print to
@@ -73,21 +73,21 @@ record Third (t : List ℕ) (h ls : List (List ℤ)) (b : Blocks) : Type 0 where
   fields : AllFields 7 segments
 
 third : (h ls : List (List ℤ)) (t : List ℕ) (b : Blocks) (r : Option (List ℕ)) → (parse_block segment_names 512 7 t).rest ≡ r
-    → after_segments h ls (parse_block segment_names 512 7 t).lines r ≡ some b → Third t h ls b
-third h ls t b none e g = never refl g
-third h ls t b (some []) e g =
+    → after_segments h ls (parse_block segment_names 512 7 t).lines r ≡ Some b → Third t h ls b
+third h ls t b None e g = never refl g
+third h ls t b (Some []) e g =
     let q = parse_block segment_names 512 7 t in
     let k = block_sound segment_names 512 7 t [] e in
     record { segments = q.lines; is = cc; text = k.text ∙ append-nil (block_text segment_names q.lines); few = k.few; fields = k.fields }
-third h ls t b (some (c ∷ u)) e g = never refl g
+third h ls t b (Some (c ∷ u)) e g = never refl g
 
 module _ (s : List ℕ) (b : Blocks) (small : length s ≤ 65536) where
   second : (h : List (List ℤ)) (t : List ℕ) → s ≡ block_text head_names h ++ t → length h ≡ 1 → AllFields 4 h
-      → (x : Option (List ℕ)) → (parse_block layer_names 64 8 t).rest ≡ x → after_layers h (parse_block layer_names 64 8 t).lines x ≡ some b
+      → (x : Option (List ℕ)) → (parse_block layer_names 64 8 t).rest ≡ x → after_layers h (parse_block layer_names 64 8 t).lines x ≡ Some b
       → Printed s b
   unfolding blocks_text
-  second h t p one f none e g = never refl g
-  second h t p one f (some u) e g =
+  second h t p one f None e g = never refl g
+  second h t p one f (Some u) e g =
       let ls = (parse_block layer_names 64 8 t).lines in
       let k = block_sound layer_names 64 8 t u e in
       let l = third h ls u b (parse_block segment_names 512 7 u).rest refl g in
@@ -108,9 +108,9 @@ module _ (s : List ℕ) (b : Blocks) (small : length s ≤ 65536) where
         text = whole;
       })
 
-  first : (x : Option (List ℕ)) → (parse_block head_names 1 4 s).rest ≡ x → after_head (parse_block head_names 1 4 s).lines x ≡ some b → Printed s b
-  first none e g = never refl g
-  first (some t) e g =
+  first : (x : Option (List ℕ)) → (parse_block head_names 1 4 s).rest ≡ x → after_head (parse_block head_names 1 4 s).lines x ≡ Some b → Printed s b
+  first None e g = never refl g
+  first (Some t) e g =
       let h = (parse_block head_names 1 4 s).lines in
       let k = block_sound head_names 1 4 s t e in
       cases (eqb (length h) 1)
@@ -119,7 +119,7 @@ module _ (s : List ℕ) (b : Blocks) (small : length s ≤ 65536) where
       second h t k.text one k.fields (parse_block layer_names 64 8 t).rest refl (sym (one_line h t one) ∙ g))
       (λ o. never (other_lines h t (eqb-false (length h) 1 o)) g)
 
-pub sound : (s : List ℕ) (b : Blocks) → parse_blocks s ≡ some b → Printed s b
+pub sound : (s : List ℕ) (b : Blocks) → parse_blocks s ≡ Some b → Printed s b
 sound s b g =
     elim (dec_lt 65536 (length s)) [
       | yes h ↦ never (too_long s h) g

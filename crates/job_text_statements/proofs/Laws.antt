@@ -2,9 +2,9 @@
 -- only where they are the same.
 -- Assumes nothing.
 use Rattle.std.specs.Prelude.{◌≡◌, ◌∷◌}
-use Rattle.laws.proofs.Prelude.{refl, sym, ap, ap₂, ◌∙◌, subst, Bool, true, cond, List, [], map, Option, some, none, ℕ, arith, ℤ, pos}
+use Rattle.laws.proofs.Prelude.{refl, sym, ap, ap₂, ◌∙◌, subst, Bool, true, cond, List, [], map, Option, Some, None, ℕ, arith, ℤ, pos}
 use Rattle.laws.proofs.Prelude.{length, get_or, is_tabulate}
-use mathlib.Core.Option.{some-injective}
+use Rattle.std.proofs.lemmas.Option.{same_Some}
 use Rattle.lines.specs.Text.{Fields, AllFields}
 use Rattle.decimal.proofs.Steps.{cases}
 use Rattle.job_lines.specs.declared.layer.LayerLine.{LayerLine}
@@ -58,14 +58,14 @@ blocks_back b w =
 
 -- ---- jobs and their texts
 
-pub complete : (j : Job) → WellFormed j → parse (render j) ≡ some j
+pub complete : (j : Job) → WellFormed j → parse (render j) ≡ Some j
 unfolding parse render
 complete j w =
     ap judged (forms.complete (blocks_of j) w.form)
-    ∙ ap (λ (i : Job). cond (is_allowed i) (some i) none) (job_back j)
-    ∙ ap (λ (t : Bool). cond t (some j) none) w.rules
+    ∙ ap (λ (i : Job). cond (is_allowed i) (Some i) None) (job_back j)
+    ∙ ap (λ (t : Bool). cond t (Some j) None) w.rules
 
-blocks_sound : (s : List ℕ) (b : Blocks) → parse_blocks s ≡ some b → is_allowed (job_of b) ≡ true → Prints s (job_of b)
+blocks_sound : (s : List ℕ) (b : Blocks) → parse_blocks s ≡ Some b → is_allowed (job_of b) ≡ true → Prints s (job_of b)
 unfolding render
 blocks_sound s b e ok =
     let p = forms.sound s b e in
@@ -73,20 +73,20 @@ blocks_sound s b e ok =
     record { form = record { form = rw back p.form; rules = ok }; printed = rw back p.text }
 
 -- a job that is read is well formed, and the text is its print
-pub sound : (s : List ℕ) (j : Job) → parse s ≡ some j → Prints s j
+pub sound : (s : List ℕ) (j : Job) → parse s ≡ Some j → Prints s j
 unfolding parse
 sound s j e = by (parse_blocks s) refl e
   where
-    by : (o : Option Blocks) → parse_blocks s ≡ o → judged o ≡ some j → Prints s j
-    by none p g = never refl g
-    by (some b) p g =
+    by : (o : Option Blocks) → parse_blocks s ≡ o → judged o ≡ Some j → Prints s j
+    by None p g = never refl g
+    by (Some b) p g =
         cases (is_allowed (job_of b))
-        (λ t. let same : job_of b ≡ j = some-injective _ _ (rw t at g) in subst (λ (i : Job). Prints s i) same (blocks_sound s b p t))
+        (λ t. let same : job_of b ≡ j = same_Some _ _ (rw t at g) in subst (λ (i : Job). Prints s i) same (blocks_sound s b p t))
         (λ t. never refl (rw t at g))
 
 -- a text that is not read is no well-formed job's
-pub refused : (s : List ℕ) → parse s ≡ none → (j : Job) → WellFormed j → s ≡ render j → ⊥
+pub refused : (s : List ℕ) → parse s ≡ None → (j : Job) → WellFormed j → s ≡ render j → ⊥
 refused s e j w p = never e (ap parse p ∙ complete j w)
 
 pub unique : (i j : Job) → WellFormed i → WellFormed j → render i ≡ render j → i ≡ j
-unique i j v w e = some-injective i j (sym (complete i v) ∙ ap parse e ∙ complete j w)
+unique i j v w e = same_Some i j (sym (complete i v) ∙ ap parse e ∙ complete j w)

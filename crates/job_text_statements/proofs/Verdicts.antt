@@ -1,7 +1,7 @@
 -- Each answer of `read_numbers`, from what the blocks and the judges of their lines give.
 -- Assumes nothing.
 use Rattle.std.specs.Prelude.{◌≡◌, ◌&&◌, ◌*◌, ◌<◌, ◌≤◌}
-use Rattle.laws.proofs.Prelude.{sym, ap, ◌∙◌, true, false, cond, List, flatten, some, none, ℕ, arith, le-leb, lt-leb, leb}
+use Rattle.laws.proofs.Prelude.{sym, ap, ◌∙◌, true, false, cond, List, flatten, Some, None, ℕ, arith, le-leb, lt-leb, leb}
 use Rattle.laws.proofs.Prelude.{ℤ, length, length-sets, all}
 use Rattle.job_text_statements.specs.Text.{Formed}
 use Rattle.job_lines.specs.Rules.{layer_rule, segment_rule, segment_count}
@@ -12,14 +12,14 @@ use Rattle.job_text_statements.specs.Read.{BlocksStored, NumbersStored}
 use Rattle.job_text_statements.proofs.Forms.{sound}
 use Rattle.job_text_statements.proofs.Stored.{head_at, layers_are, segments_are}
 
-pub broken : (s : List ℕ) → parse_blocks s ≡ none → parse s ≡ none
+pub broken : (s : List ℕ) → parse_blocks s ≡ None → parse s ≡ None
 unfolding parse
 broken s e = ap judged e
 
-refused : (j : Job) → is_allowed j ≡ false → cond (is_allowed j) (some j) none ≡ none
+refused : (j : Job) → is_allowed j ≡ false → cond (is_allowed j) (Some j) None ≡ None
 refused j e = rw e
 
-allowed : (j : Job) → is_allowed j ≡ true → cond (is_allowed j) (some j) none ≡ some j
+allowed : (j : Job) → is_allowed j ≡ true → cond (is_allowed j) (Some j) None ≡ Some j
 allowed j e = rw e
 
 module _ {s : List ℕ} {head layers segments : List ℤ} {n m : ℕ} {head' layers' segments' : List ℤ}
@@ -51,23 +51,23 @@ module _ {s : List ℕ} {head layers segments : List ℤ} {n m : ℕ} {head' lay
       ap (λ (ns : List ℤ). segments_in ns m) b.segments_stored ∙ sym (segments_are q.segments segments m b.segment_lines form.segments (omega (arith, few_lines, b.segment_lines))) in
       sym (rw (h, ls, ss))
 
-  parse_is : parse s ≡ cond (is_allowed (job_in head' layers' n segments' m)) (some (job_in head' layers' n segments' m)) none
+  parse_is : parse s ≡ cond (is_allowed (job_in head' layers' n segments' m)) (Some (job_in head' layers' n segments' m)) None
   unfolding parse
-  parse_is = ap judged b.parsed ∙ ap (λ (j : Job). cond (is_allowed j) (some j) none) job_is
+  parse_is = ap judged b.parsed ∙ ap (λ (j : Job). cond (is_allowed j) (Some j) None) job_is
 
   -- the three tests of the rules
-  refused_by : (all layer_rule (layer_lines layers' n) && all segment_rule (segments_in segments' m) && leb (segment_count (segments_in segments' m)) 2048) ≡ false → parse s ≡ none
+  refused_by : (all layer_rule (layer_lines layers' n) && all segment_rule (segments_in segments' m) && leb (segment_count (segments_in segments' m)) 2048) ≡ false → parse s ≡ None
   unfolding is_allowed
   refused_by e = parse_is ∙ refused (job_in head' layers' n segments' m) e
 
-  pub bad_layers : all layer_rule (layer_lines layers' n) ≡ false → parse s ≡ none
+  pub bad_layers : all layer_rule (layer_lines layers' n) ≡ false → parse s ≡ None
   bad_layers e = refused_by (rw e)
 
-  pub bad_segments : all layer_rule (layer_lines layers' n) ≡ true → all segment_rule (segments_in segments' m) ≡ false → parse s ≡ none
+  pub bad_segments : all layer_rule (layer_lines layers' n) ≡ true → all segment_rule (segments_in segments' m) ≡ false → parse s ≡ None
   bad_segments l e = refused_by (rw (l, e))
 
   pub too_many : {count : ℕ} → all layer_rule (layer_lines layers' n) ≡ true → all segment_rule (segments_in segments' m) ≡ true
-      → count ≡ segment_count (segments_in segments' m) → 2048 < count → parse s ≡ none
+      → count ≡ segment_count (segments_in segments' m) → 2048 < count → parse s ≡ None
   too_many l e c h = refused_by (rw (l, e) (lt-leb (segment_count (segments_in segments' m)) 2048 (omega arith)))
 
   pub good : {count : ℕ} → all layer_rule (layer_lines layers' n) ≡ true → all segment_rule (segments_in segments' m) ≡ true

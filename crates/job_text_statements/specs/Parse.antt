@@ -1,6 +1,6 @@
 -- Reading a job text block by block. proofs/Laws says what this is: the inverse of `render` on well-formed jobs.
 use Rattle.std.specs.Prelude.{◌∷◌}
-use Rattle.laws.specs.Prelude.{cond, List, [], map, Option, some, none, ℕ, ltb, eqb, ℤ, pos, length, get_or}
+use Rattle.laws.specs.Prelude.{cond, List, [], map, Option, Some, None, ℕ, ltb, eqb, ℤ, pos, length, get_or}
 use Rattle.lines.specs.Parse.{parse_block}
 use Rattle.job_text_statements.specs.declared.Head.{Head}
 use Rattle.job_lines.specs.declared.layer.LayerLine.{LayerLine}
@@ -12,21 +12,21 @@ use Rattle.job_text_statements.specs.Job.{Job, is_allowed}
 
 -- after each block: the last one ends the text, and the first one has one line
 abbrev pub after_segments : List (List ℤ) → List (List ℤ) → List (List ℤ) → Option (List ℕ) → Option Blocks
-after_segments h ls ss none = none
-after_segments h ls ss (some []) = some (record { head = h; layers = ls; segments = ss })
-after_segments h ls ss (some (b ∷ t)) = none
+after_segments h ls ss None = None
+after_segments h ls ss (Some []) = Some (record { head = h; layers = ls; segments = ss })
+after_segments h ls ss (Some (b ∷ t)) = None
 
 abbrev pub after_layers : List (List ℤ) → List (List ℤ) → Option (List ℕ) → Option Blocks
-after_layers h ls none = none
-after_layers h ls (some t) = after_segments h ls (parse_block segment_names 512 7 t).lines (parse_block segment_names 512 7 t).rest
+after_layers h ls None = None
+after_layers h ls (Some t) = after_segments h ls (parse_block segment_names 512 7 t).lines (parse_block segment_names 512 7 t).rest
 
 abbrev pub after_head : List (List ℤ) → Option (List ℕ) → Option Blocks
-after_head h none = none
-after_head h (some t) =
-    cond (eqb (length h) 1) (after_layers h (parse_block layer_names 64 8 t).lines (parse_block layer_names 64 8 t).rest) none
+after_head h None = None
+after_head h (Some t) =
+    cond (eqb (length h) 1) (after_layers h (parse_block layer_names 64 8 t).lines (parse_block layer_names 64 8 t).rest) None
 
 unfoldable pub parse_blocks : List ℕ → Option Blocks
-parse_blocks s = cond (ltb 65536 (length s)) none (after_head (parse_block head_names 1 4 s).lines (parse_block head_names 1 4 s).rest)
+parse_blocks s = cond (ltb 65536 (length s)) None (after_head (parse_block head_names 1 4 s).lines (parse_block head_names 1 4 s).rest)
 
 -- ---- the job
 
@@ -63,8 +63,8 @@ job_of b = record { head = head_of (get_or b.head 0 []); layers = map layer_line
 
 -- the job, where the rules on its values hold
 abbrev pub judged : Option Blocks → Option Job
-judged none = none
-judged (some b) = cond (is_allowed (job_of b)) (some (job_of b)) none
+judged None = None
+judged (Some b) = cond (is_allowed (job_of b)) (Some (job_of b)) None
 
 unfoldable pub parse : List ℕ → Option Job
 parse s = judged (parse_blocks s)

@@ -2,8 +2,6 @@
 // job_numbers and job_text.
 #![tactic(auto)]
 
-pub mod blocks;
-
 // The numbers of block 1.
 #[derive(Clone, Copy)]
 pub struct Head {
@@ -13,10 +11,10 @@ pub struct Head {
     pub to: i32,
 }
 
+// How long a job is: how many layers it has, how many lines of segments, and how many segments these stand for.
 #[derive(Clone, Copy)]
-pub enum Numbers {
-    // How many layers there are, how many lines of segments, and how many segments these stand for.
-    Job(usize, usize, usize),
-    // Refusal 10.
-    Malformed,
+pub struct Counts {
+    pub layers: usize,
+    pub lines: usize,
+    pub segments: usize,
 }

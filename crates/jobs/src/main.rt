@@ -19,10 +19,8 @@ fn run_argument(rt: &(impl Env + Files + Print), errors: &impl Print, i: usize) 
 fn main(rt: HostRuntime) -> io::Result<()> {
     let count = argument_files::count(&rt);
     let errors = rt.stderr();
-    let mut i: usize = 1;
-    while i < count {
+    for i in 1..count {
         run_argument(&rt, &errors, i)?;
-        i += 1;
     }
     Ok(())
 }

@@ -4,7 +4,7 @@ ghost use Rattle.refusals.specs.Refusal.{judgement_in};
 ghost use Rattle.kept_count.specs.Keeping.{lent_members, are_members_short, judged_count, are_kinds, keep_verdict};
 
 use cached_tile::kept::Kept;
-use refusals::{Refusal, Verdict};
+use refusals::Refusal;
 
 // The most layers that a list has.
 const LIMIT: usize = 256;
@@ -18,7 +18,7 @@ fn is_short(ids: &[u32], kinds: &[u8]) -> bool
 fn judged_count(n: usize) -> usize
     ensures { result ≡ judged_count n }
 {
-    if n < LIMIT { n } else { LIMIT }
+    n.min(LIMIT)
 }
 
 // Whether the first `n` kinds are in range.
@@ -27,10 +27,8 @@ fn are_kinds(kinds: &[u8], n: usize) -> bool
     ensures { result ≡ are_kinds kinds.now n }
 {
     let mut ok = true;
-    let mut i: usize = 0;
-    while i < n {
-        ok = (kinds[i] <= 2) & ok;
-        i += 1;
+    for kind in &kinds[..n] {
+        ok &= *kind <= 2;
     }
     ok
 }
@@ -44,28 +42,28 @@ pub fn judge_keeping(
     kinds: &[u8],
     n: usize,
     kept: Kept,
-) -> Verdict
+) -> Result<(), Refusal>
     ensures { judgement_in result ≡ keep_verdict
         (lent_members last_ids.now last_kinds.now last)
         (lent_members ids.now kinds.now n)
         kept }
 {
     if is_short(last_ids, last_kinds) | is_short(ids, kinds) {
-        return Verdict::Refuse(Refusal::Room);
+        return Err(Refusal::Room);
     }
     let old = judged_count(last);
     let new = judged_count(n);
     if !(are_kinds(last_kinds, old) & are_kinds(kinds, new)) {
-        return Verdict::Refuse(Refusal::Table);
+        return Err(Refusal::Table);
     }
     if !(queue::is_queue(last_ids, old) & queue::is_queue(ids, new)) {
-        return Verdict::Refuse(Refusal::Queue);
+        return Err(Refusal::Queue);
     }
     if kept.is_tag_out_of_range() {
-        return Verdict::Refuse(Refusal::Tag);
+        return Err(Refusal::Tag);
     }
     if (LIMIT < last) | (LIMIT < n) {
-        return Verdict::Refuse(Refusal::Layers);
+        return Err(Refusal::Layers);
     }
-    Verdict::Pass
+    Ok(())
 }

@@ -10,9 +10,8 @@ ghost use Rattle.std.specs.Prelude.{◌≡◌};
 ghost use Rattle.kept_count.specs.Keeping.{lent_members, uncounted, keep_of, KeepsCount};
 ghost use Rattle.kept_count.specs.InnerKeeping.{answered_by};
 
-use cached_tile::LayerCount;
 use cached_tile::kept::Kept;
-use refusals::{Refusal, Verdict};
+use refusals::Refusal;
 
 // What is answered: why the call is turned down, that the count may stay, or that it was dropped.
 #[derive(Clone, Copy)]
@@ -33,7 +32,7 @@ fn drop_count(kept: Kept) -> Kept
 {
     let tile = kept.tile;
     if kept.given {
-        let updated = tile.update_layer_count(LayerCount::Absent);
+        let updated = tile.update_layer_count(None);
         let tile = updated.tile;
         Kept {
             given: true,
@@ -81,11 +80,11 @@ pub fn keep_count(
         result }
 {
     match judging::judge_keeping(last_ids, last_kinds, last, ids, kinds, n, kept) {
-        Verdict::Refuse(refusal) => CountKept {
+        Err(refusal) => CountKept {
             kept: kept,
             answer: CountAnswer::Refused(refusal),
         },
-        Verdict::Pass => keep_or_drop(
+        Ok(()) => keep_or_drop(
             walking::stay(last_ids, last_kinds, last, ids, kinds, n),
             kept,
         ),

@@ -33,10 +33,8 @@ pub fn stay(
         (members_of ids.now kinds.now n) }
 {
     let mut met: usize = 0;
-    let mut i: usize = 0;
-    while i < n {
+    for i in 0..n {
         met = meet(last_ids, last_kinds, last, met, ids[i], kinds[i]);
-        i += 1;
     }
     met == last
 }

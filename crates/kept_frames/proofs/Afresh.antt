@@ -1,13 +1,12 @@
 -- The shown layers of a work that draws the tile, and with them the picture, rest neither on flags nor on whether layers were removed. Assumes nothing.
 use Rattle.std.specs.Prelude.{◌≡◌, ◌&&◌, ◌∷◌}
-use Rattle.laws.proofs.Prelude.{refl, sym, ap, ◌∙◌, Bool, true, false, cond, List, [], map, Option, none, ℕ, zero}
+use Rattle.laws.proofs.Prelude.{refl, sym, ap, ◌∙◌, Bool, true, false, cond, List, [], map, Option, None, ℕ, zero}
 use Rattle.laws.proofs.Prelude.{suc, leb, length, get_or, replicate, length-map}
+use Rattle.pass_statements.specs.declared.clips.ActiveClip.{ActiveClip}
 use Rattle.pass_statements.specs.Clips.{step_of, clips_from, marks_of}
 use Rattle.pass_statements.specs.Covered.{hides, look_at, item_at, covered_from, start_of, covered_of}
 use Rattle.pass_statements.specs.Decide.{shown_from, shown_of}
 use Rattle.pass_statements.specs.declared.item.Item.{Item}
-use Rattle.pass_statements.specs.declared.clips.Current.{Current}
-use Rattle.pass_statements.specs.declared.clips.Current.TheVariants.{Nothing}
 use Rattle.pass_statements.specs.declared.covered.Covered.{Covered}
 use Rattle.pass_statements.proofs.Covering.{look_past, look_on, look_last}
 use Rattle.painter.specs.Clip.{clip_after}
@@ -56,15 +55,15 @@ removed_no_part items unmasked unclipped removed =
 
 -- ---- flags
 
-marks_flags : (xs : List Item) (i : ℕ) (cur : Current) (s u : List Bool) → clips_from (map unflagged xs) i cur s u ≡ clips_from xs i cur s u
+marks_flags : (xs : List Item) (i : ℕ) (cur : Option ActiveClip) (s u : List Bool) → clips_from (map unflagged xs) i cur s u ≡ clips_from xs i cur s u
 unfolding clips_from step_of
 marks_flags [] i cur s u = refl
 marks_flags (x ∷ xs) i cur s u = marks_flags xs (suc i) _ _ _
 
 same_marks : (items : List Item) → marks_of (map unflagged items) ≡ marks_of items
 same_marks items =
-    ap (λ (n : ℕ). clips_from (map unflagged items) 0 Nothing (replicate n true) (replicate n false)) (length-map items unflagged)
-    ∙ marks_flags items 0 Nothing (replicate (length items) true) (replicate (length items) false)
+    ap (λ (n : ℕ). clips_from (map unflagged items) 0 None (replicate n true) (replicate n false)) (length-map items unflagged)
+    ∙ marks_flags items 0 None (replicate (length items) true) (replicate (length items) false)
 
 same_hides : (items : List Item) (i : ℕ) (free : Bool) → hides (item_at (map unflagged items) i) free ≡ hides (item_at items i) free
 same_hides [] i free = refl
@@ -102,4 +101,4 @@ strokes_flags items (x ∷ xs) clip mask =
     rw (needs_flags items x.func x.id, strokes_flags items xs (clip_after x.func x.id clip) (mask_after x.func x.id mask)) refl
 
 pub flags_no_part : FlagsNoPart
-flags_no_part items = ap (strokes_from (map unflagged items) none none) (afresh_flags items) ∙ strokes_flags items (shown_afresh items) none none
+flags_no_part items = ap (strokes_from (map unflagged items) None None) (afresh_flags items) ∙ strokes_flags items (shown_afresh items) None None

@@ -1,7 +1,7 @@
 -- The decision of a work without a count rests on its paintings and the clear colour alone. Assumes nothing.
 use Rattle.std.specs.Prelude.{◌≡◌, ◌&&◌, ◌||◌, ◌∷◌, ◌+◌, ◌≤◌, ◌<◌}
 use Rattle.laws.proofs.Prelude.{refl, sym, ap, ap₂, subst, fun_ext, ◌∙◌, Bool, true, false, cond, not, false≢true, List, []}
-use Rattle.laws.proofs.Prelude.{map, ⊎_elim, none, ℕ, zero, suc, arith, le-leb, lt-leb, leb, length, get_or, drop, all}
+use Rattle.laws.proofs.Prelude.{map, ⊎_elim, None, ℕ, zero, suc, arith, le-leb, lt-leb, leb, length, get_or, drop, all}
 use Rattle.laws.proofs.Prelude.{either}
 use Rattle.styling.specs.Style.{is_clipped_of, is_opaque, solid_color}
 use Rattle.styling.specs.declared.Color.{Color}
@@ -228,7 +228,7 @@ by_picture clear items up =
     let cs = (marks_of items).unclipped in
     let shown = shown_afresh items in
     let found = covered_of items us cs true in
-    let strokes = strokes_plainly items shown none none in
+    let strokes = strokes_plainly items shown None None in
     afresh_passed clear items
     ∙ ap (λ (b : Bool). decision_by found.first b clear shown) (changed_stays items us cs (length items) (start_of items true) refl)
     ∙ decision_for_lem found.first clear shown

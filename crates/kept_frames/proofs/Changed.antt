@@ -1,6 +1,6 @@
 -- Whether layers were removed, and flags, matter to a decision in one way alone: it may be *none*. Else it is that of a work without a count, and the shown
 -- layers are the same in any case. Assumes nothing.
-use Rattle.std.specs.Prelude.{◌≡◌, ◌&&◌, ◌⊎◌}
+use Rattle.std.specs.Prelude.{◌≡◌, ◌&&◌, ◌⊎◌, None}
 use Rattle.laws.proofs.Prelude.{refl, sym, ap, ap₂, ◌∙◌, Bool, true, false, List, inl, inr, ⊎_elim, ℕ, zero, suc, length}
 use Rattle.laws.proofs.Prelude.{get_or}
 use Rattle.styling.specs.declared.Color.{Color}
@@ -13,7 +13,6 @@ use Rattle.pass_statements.specs.declared.item.Item.{Item}
 use Rattle.pass_statements.specs.declared.covered.Covered.{Covered}
 use Rattle.pass_statements.specs.declared.covered.InterestingCover.{InterestingCover}
 use Rattle.pass_statements.specs.declared.covered.InterestingCover.TheVariants.{Absent, Opaque, Incomplete}
-use Rattle.pass_statements.specs.declared.unchanged.PreviousCount.TheVariants as counts
 use Rattle.pass_statements.proofs.Covering.{look_past, look_on, look_last}
 use Rattle.pass_statements.proofs.Outcomes.{outcome_passed}
 use Rattle.kept_frames.specs.Picture.{decision_afresh}
@@ -96,7 +95,7 @@ passed_by clear removed items =
 
 -- the decision without a count
 pub afresh_passed : (clear : Color) (items : List Item) → decision_afresh clear items ≡ (passed_of clear true items).decision
-afresh_passed clear items = ap (λ (o : Outcome). o.decision) (outcome_passed clear false counts.Absent items refl)
+afresh_passed clear items = ap (λ (o : Outcome). o.decision) (outcome_passed clear false None items refl)
 
 pub worked_afresh : WorkedAfresh
 worked_afresh clear clear_unchanged count items k =

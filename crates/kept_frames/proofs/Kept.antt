@@ -1,6 +1,6 @@
 -- *None* by the first pass: with truthful flags and the count of the last work, the list is that of the last work. Assumes nothing.
-use Rattle.std.specs.Prelude.{◌≡◌, ◌&&◌, ◌∷◌}
-use Rattle.laws.proofs.Prelude.{sym, ap, ◌∙◌, Bool, true, false, not, cond, List, [], map, Option, none, ℕ, eqb-true, eqb}
+use Rattle.std.specs.Prelude.{◌≡◌, ◌&&◌, ◌∷◌, Some}
+use Rattle.laws.proofs.Prelude.{sym, ap, ◌∙◌, Bool, true, false, not, cond, List, [], map, Option, None, ℕ, eqb-true, eqb}
 use Rattle.laws.proofs.Prelude.{length, left, right, all_at}
 use Rattle.styling.specs.declared.Color.{Color}
 use Rattle.styling.specs.declared.Func.{Func}
@@ -9,7 +9,6 @@ use Rattle.pass_statements.specs.Clips.{marks_of}
 use Rattle.pass_statements.specs.Rules.{needs_clip}
 use Rattle.pass_statements.specs.Unchanged.{all_unchanged, is_kept}
 use Rattle.pass_statements.specs.declared.item.Item.{Item}
-use Rattle.pass_statements.specs.declared.unchanged.PreviousCount.TheVariants.{Kept}
 use Rattle.painter.specs.Clip.{alive_at, clip_after, has_no_clip}
 use Rattle.kept_frames.specs.Picture.{unflagged, shown_afresh, mask_after, strokes_from, picture_of, decision_afresh, drawn_afresh}
 use Rattle.kept_frames.specs.Told.{Told}
@@ -27,7 +26,7 @@ told_all before [] t h = tt
 told_all before (x ∷ xs) (f, t) h = (f (left x.unchanged (all_unchanged xs) h), told_all before xs t (right x.unchanged (all_unchanged xs) h))
 
 -- and so every stroke is of unchanged layers
-mask_unchanged : (now : List Item) (t : Bool) (mask : Option ℕ) → MaskUnchanged now mask → MaskUnchanged now (cond t mask none)
+mask_unchanged : (now : List Item) (t : Bool) (mask : Option ℕ) → MaskUnchanged now mask → MaskUnchanged now (cond t mask None)
 mask_unchanged now true mask m = m
 mask_unchanged now false mask m = tt
 
@@ -46,13 +45,13 @@ strokes_unchanged now (x ∷ xs) clip mask (u, us) m =
 
 all_unchanged_lem : (now : List Item) → all_unchanged now ≡ true → StrokesUnchanged now (picture_of now)
 all_unchanged_lem now h =
-    strokes_unchanged now (shown_afresh now) none none
+    strokes_unchanged now (shown_afresh now) None None
     (each_shown (λ x. ListedUnchanged now x.id) _ now (marks_of now).unmasked
     (λ i l m q. listed_at now i l (all_at (λ (x : Item). x.unchanged) now h i _ l)))
     tt
 
 -- the first pass keeps a tile only with the very list of the last work, whose count was kept
-pub kept_list : (clear_unchanged : Bool) (before now : List Item) → Frames before now → is_kept clear_unchanged (Kept (length before)) now ≡ true
+pub kept_list : (clear_unchanged : Bool) (before now : List Item) → Frames before now → is_kept clear_unchanged (Some (length before)) now ≡ true
     → (map unflagged before ≡ map unflagged now) × (all_unchanged now ≡ true)
 kept_list clear_unchanged before now f k =
     let counts = eqb (length before) (length now) in

@@ -2,7 +2,7 @@
 -- the last work. Assumes nothing.
 use Rattle.std.specs.Prelude.{◌≡◌, ◌&&◌, ◌||◌, ◌∷◌, ◌≤◌, ◌<◌}
 use Rattle.laws.proofs.Prelude.{refl, sym, ap, ap₂, ◌∙◌, Bool, true, false, not, Bool·beq, List, [], map}
-use Rattle.laws.proofs.Prelude.{Option, none, ℕ, arith, eqb-true, eq-eqb, eqb, length, both, left, right, not_right, clash}
+use Rattle.laws.proofs.Prelude.{Option, None, ℕ, arith, eqb-true, eq-eqb, eqb, length, both, left, right, not_right, clash}
 use Rattle.styling.specs.declared.Color.{Color}
 use Rattle.styling.specs.Style.{is_clipped_of}
 use Rattle.pass_statements.specs.Clips.{marks_of}
@@ -32,9 +32,9 @@ pub record Plain (before now : List Item) (x : Item) : Type 0 where
   pub listed : ListedUnchanged now x.id
 
 abbrev plain_stroke : Item → Stroke
-plain_stroke x = record { layer = unflagged x; needs = false; lacks = false; mask = none }
+plain_stroke x = record { layer = unflagged x; needs = false; lacks = false; mask = None }
 
-no_mask : (needs : Bool) (alive mask : Option ℕ) → needs ≡ false → mask_for needs alive mask ≡ none
+no_mask : (needs : Bool) (alive mask : Option ℕ) → needs ≡ false → mask_for needs alive mask ≡ None
 no_mask needs alive mask e = rw e refl
 
 no_lack : (needs : Bool) (alive : Option ℕ) → needs ≡ false → lacks_clip needs alive ≡ false
@@ -128,12 +128,12 @@ pub full_cover_right : FullCoverRight
 full_cover_right clear clear' removed before now fr a e =
     let shown = shown_afresh now in
     let plain = all_plain before now fr (none_floor clear' removed now e) in
-    let new = plain_strokes before now shown none none plain in
-    let old = same_strokes before now fr.up_before (shown_afresh before) shown none none (all_listed before) plain
+    let new = plain_strokes before now shown None None plain in
+    let old = same_strokes before now fr.up_before (shown_afresh before) shown None None (all_listed before) plain
     (ap (λ (s : List Stroke). Same before now (picture_of before) s) (sym new) ∙ right (same_bits clear clear') (layers_alike before now) a) in
     record {
       drawn = same_drawn clear clear' before now fr (left (same_bits clear clear') (layers_alike before now) a) (old ∙ sym new);
-      unchanged = strokes_unchanged now shown none none (listed_each before now shown plain) tt;
+      unchanged = strokes_unchanged now shown None None (listed_each before now shown plain) tt;
     }
 
 -- ---- where the paintings are the same the layers are alike

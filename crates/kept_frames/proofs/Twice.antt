@@ -1,7 +1,7 @@
 -- Two askings of `keep_count`, of the shown layers in either order, are the comparison of the keep rule. Assumes nothing.
 use Rattle.std.specs.Prelude.{◌≡◌, ◌&&◌, ◌||◌, ◌∷◌, ◌⊎◌, ◌≤◌, ◌<◌}
 use Rattle.laws.proofs.Prelude.{refl, sym, ap, ◌∙◌, Bool, true, false, cond, Bool·beq, false≢true, List, [], map, inl, inr}
-use Rattle.laws.proofs.Prelude.{⊎_elim, Option, none, ℕ, suc, arith, eqb-true, eq-eqb, le-leb, eqb, leb, both, left, right, same}
+use Rattle.laws.proofs.Prelude.{⊎_elim, Option, None, ℕ, suc, arith, eqb-true, eq-eqb, le-leb, eqb, leb, both, left, right, same}
 use Rattle.styling.specs.Ascending.{strictly_ascends_from}
 use Rattle.styling.proofs.Ascents.{ascends_head, ascends_tail, ascends_weaken}
 use Rattle.pass_statements.specs.Clips.{marks_of}
@@ -184,7 +184,7 @@ ids_shown items (x ∷ xs) clip mask =
     ∙ ap (λ (l : List ℕ). x.id ∷ l) (ids_shown items xs (clip_after x.func x.id clip) (mask_after x.func x.id mask))
 
 picture_up : (items : List Item) → is_ascending items ≡ true → strictly_ascends_from 0 (ids (map shown_by (picture_of items))) ≡ true
-picture_up items up = ap (strictly_ascends_from 0) (ids_shown items (shown_afresh items) none none) ∙ shown_up 0 _ items (marks_of items).unmasked 0 up
+picture_up items up = ap (strictly_ascends_from 0) (ids_shown items (shown_afresh items) None None) ∙ shown_up 0 _ items (marks_of items).unmasked 0 up
 
 pub twice_alike : TwiceAlike
 twice_alike before now up up' =

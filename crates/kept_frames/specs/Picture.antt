@@ -3,7 +3,7 @@
 -- painter has a clip, which is not always the latest listed one (P7). A draw that needs a clip while the painter has none paints nothing. Flags have no
 -- part in it. Whatever makes pixels of these, and of the clear colour, makes the same of the same; nothing is said of blending.
 use Rattle.std.specs.Prelude.{◌&&◌, ◌∷◌}
-use Rattle.laws.specs.Prelude.{Bool, true, false, cond, not, List, [], Option, some, none, ℕ}
+use Rattle.laws.specs.Prelude.{Bool, true, false, cond, not, List, [], Option, Some, None, ℕ}
 use Rattle.styling.specs.declared.Color.{Color}
 use Rattle.styling.specs.declared.Func.{Func}
 use Rattle.styling.specs.declared.Func.TheVariants.{Draw, Clip}
@@ -13,7 +13,6 @@ use Rattle.pass_statements.specs.Decide.{shown_of, outcome_of}
 use Rattle.pass_statements.specs.Decision.{TileDecision}
 use Rattle.pass_statements.specs.Rules.{needs_clip}
 use Rattle.pass_statements.specs.declared.item.Item.{Item}
-use Rattle.pass_statements.specs.declared.unchanged.PreviousCount.TheVariants.{Absent}
 use Rattle.painter.specs.Clip.{alive_at, clip_after, has_no_clip, lacks_clip}
 
 -- a listed layer but for its flag: what it shows in the tile rests on this alone
@@ -36,11 +35,11 @@ pub record Stroke : Type 0 where
 
 -- what cuts a layer: the mask, where the layer needs a clip and one is alive
 abbrev pub mask_for : {A : Type 0} → Bool → Option ℕ → Option A → Option A
-mask_for needs alive mask = cond (needs && not (has_no_clip alive)) mask none
+mask_for needs alive mask = cond (needs && not (has_no_clip alive)) mask None
 
 -- a clip becomes the mask
 abbrev pub mask_after : {A : Type 0} → Func → A → Option A → Option A
-mask_after (Clip span) painted mask = some painted
+mask_after (Clip span) painted mask = Some painted
 mask_after (Draw style) painted mask = mask
 
 -- the layers that are left to paint, by the painter's clip and the clip layer that was painted last; `items` is the tile's list
@@ -53,13 +52,13 @@ strokes_from items clip mask (x ∷ xs) =
     ∷ strokes_from items (clip_after x.func x.id clip) (mask_after x.func x.id mask) xs
 
 abbrev pub picture_of : List Item → List Stroke
-picture_of items = strokes_from items none none (shown_afresh items)
+picture_of items = strokes_from items None None (shown_afresh items)
 
 -- ---- with the decision
 
 -- that of a work without a cached tile: solid, with the bottom colour and how many shown layers lie before those to mix; or paint
 abbrev pub decision_afresh : Color → List Item → TileDecision
-decision_afresh clear items = (outcome_of clear false Absent items).decision
+decision_afresh clear items = (outcome_of clear false None items).decision
 
 pub record Drawn : Type 0 where
   pub clear : Color

@@ -1,16 +1,14 @@
 -- When *none* is right: the tile, drawn afresh, would be drawn by the same decision and the same paintings as when it was last drawn, under a clear colour of
 -- the same bits. So it is wherever the count was kept by the rule of specs/Alike, and no wider rule is right.
-use Rattle.std.specs.Prelude.{◌≡◌, ◌&&◌, ◌∷◌, ◌⊎◌}
-use Rattle.laws.specs.Prelude.{Bool, true, false, cond, List, [], map, Option, some, ℕ, length}
-use Rattle.std.proofs.Math.Option as option
+use Rattle.std.specs.Prelude.{◌≡◌, ◌&&◌, ◌∷◌, ◌⊎◌, None}
+use Rattle.laws.specs.Prelude.{Bool, true, false, cond, List, [], map, Option, Some, ℕ, length}
+use Rattle.std.specs.declared.option.Option.TheVariants as option
 use Rattle.styling.specs.declared.Color.{Color}
 use Rattle.pass_statements.specs.Decide.{shown_of, passed_of, outcome_of}
 use Rattle.pass_statements.specs.Decision.{none}
 use Rattle.pass_statements.specs.Rules.{is_ascending}
 use Rattle.pass_statements.specs.Unchanged.{is_kept}
 use Rattle.pass_statements.specs.declared.item.Item.{Item}
-use Rattle.pass_statements.specs.declared.unchanged.PreviousCount.{PreviousCount}
-use Rattle.pass_statements.specs.declared.unchanged.PreviousCount.TheVariants.{Kept, Absent}
 use Rattle.kept_frames.specs.Picture.{unflagged, shown_afresh, Stroke, picture_of, decision_afresh, drawn_afresh}
 use Rattle.kept_frames.specs.Told.{Told}
 use Rattle.kept_frames.specs.Alike.{Shown, shown_by, layers_alike, same_bits, may_keep_count}
@@ -25,13 +23,13 @@ pub record Frames (before now : List Item) : Type 0 where
 -- ---- how a tile is drawn afresh is how a work draws it, with its count or without
 
 -- a work that the first pass does not keep has the same shown layers, and decides *none* or the same
-pub record ByWork (clear : Color) (clear_unchanged : Bool) (count : PreviousCount) (items : List Item) : Type 0 where
+pub record ByWork (clear : Color) (clear_unchanged : Bool) (count : Option ℕ) (items : List Item) : Type 0 where
   pub shown : let o = outcome_of clear clear_unchanged count items in shown_of o.skipped items o.unmasked ≡ shown_afresh items
   pub decision : let o = outcome_of clear clear_unchanged count items in (o.decision ≡ none) ⊎ (o.decision ≡ decision_afresh clear items)
 
 abbrev pub WorkedAfresh : Type 0
 WorkedAfresh =
-    (clear : Color) (clear_unchanged : Bool) (count : PreviousCount) (items : List Item) → is_kept clear_unchanged count items ≡ false →
+    (clear : Color) (clear_unchanged : Bool) (count : Option ℕ) (items : List Item) → is_kept clear_unchanged count items ≡ false →
     ByWork clear clear_unchanged count items
 
 -- flags play no part in the paintings; and the decision rests on the paintings and the clear colour alone
@@ -51,8 +49,8 @@ ListedUnchanged [] id = ⊥
 ListedUnchanged (x ∷ xs) id = ((x.id ≡ id) × (x.unchanged ≡ true)) ⊎ ListedUnchanged xs id
 
 abbrev pub MaskUnchanged : List Item → Option ℕ → Type 0
-MaskUnchanged now option.none = Unit {0}
-MaskUnchanged now (some id) = ListedUnchanged now id
+MaskUnchanged now option.None = Unit {0}
+MaskUnchanged now (Some id) = ListedUnchanged now id
 
 abbrev pub StrokesUnchanged : List Item → List Stroke → Type 0
 StrokesUnchanged now [] = Unit {0}
@@ -68,7 +66,7 @@ pub record ShowsSame (clear clear' : Color) (before now : List Item) : Type 0 wh
 abbrev pub FirstPassRight : Type 0
 FirstPassRight =
     (clear clear' : Color) (clear_unchanged : Bool) (before now : List Item) → Frames before now → same_bits clear clear' ≡ true →
-    is_kept clear_unchanged (Kept (length before)) now ≡ true →
+    is_kept clear_unchanged (Some (length before)) now ≡ true →
     (map unflagged before ≡ map unflagged now) × ShowsSame clear clear' before now
 
 -- by the full-cover pass, whatever clips did
@@ -79,8 +77,8 @@ FullCoverRight =
 
 -- ---- the count that a rule lets a tile keep: that of the last work, or none
 
-abbrev pub count_by : Bool → List Item → PreviousCount
-count_by may before = cond may (Kept (length before)) Absent
+abbrev pub count_by : Bool → List Item → Option ℕ
+count_by may before = cond may (Some (length before)) None
 
 -- a rule, of the clear colours and the lists of two works, is right where every *none* under it is
 abbrev pub RightRule : (Color → Color → List Item → List Item → Bool) → Type 0
@@ -102,19 +100,19 @@ abbrev pub Widest : Type 0
 Widest =
     (rule : Color → Color → List Item → List Item → Bool) → RightRule rule →
     (clear clear' : Color) (clear_unchanged : Bool) (before now : List Item) → Frames before now →
-    (outcome_of clear' clear_unchanged (Kept (length before)) now).decision ≡ none →
+    (outcome_of clear' clear_unchanged (Some (length before)) now).decision ≡ none →
     rule clear clear' before now ≡ true → may_keep_count clear clear' before now ≡ true
 
 -- and without a count no tile is decided *none*
 abbrev pub UncountedDrawn : Type 0
-UncountedDrawn = (clear : Color) (clear_unchanged : Bool) (now : List Item) → (outcome_of clear clear_unchanged Absent now).decision ≡ none → ⊥
+UncountedDrawn = (clear : Color) (clear_unchanged : Bool) (now : List Item) → (outcome_of clear clear_unchanged None now).decision ≡ none → ⊥
 
 -- ---- when the layers need not be looked at. By the first pass they are alike; and any other decision but *none* is that without a count
 pub record RuleAtNone (clear : Color) (clear_unchanged : Bool) (before now : List Item) : Type 0 where
-  pub first : is_kept clear_unchanged (Kept (length before)) now ≡ true → layers_alike before now ≡ true
-  pub other : (is_kept clear_unchanged (Kept (length before)) now ≡ false) →
-      let counted = outcome_of clear clear_unchanged (Kept (length before)) now in
-      (counted.decision ≡ none) ⊎ (counted ≡ outcome_of clear clear_unchanged Absent now)
+  pub first : is_kept clear_unchanged (Some (length before)) now ≡ true → layers_alike before now ≡ true
+  pub other : (is_kept clear_unchanged (Some (length before)) now ≡ false) →
+      let counted = outcome_of clear clear_unchanged (Some (length before)) now in
+      (counted.decision ≡ none) ⊎ (counted ≡ outcome_of clear clear_unchanged None now)
 
 abbrev pub RuleOnlyAtNone : Type 0
 RuleOnlyAtNone = (clear : Color) (clear_unchanged : Bool) (before now : List Item) → Frames before now → RuleAtNone clear clear_unchanged before now

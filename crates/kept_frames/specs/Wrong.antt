@@ -1,7 +1,7 @@
 -- *None* by the full-cover pass is no more right than specs/Right says, here as in the Rust: the smallest histories in which a tile is kept with a wrong
 -- picture, flags truthful and no clip changed. In each frame of A to F every layer is full. Beside each, the ids of the layers that are shown at the last
 -- work, and of those that drawing afresh would show. proofs/Refuted has them computed.
-use Rattle.std.specs.Prelude.{◌≡◌, ◌∷◌}
+use Rattle.std.specs.Prelude.{◌≡◌, ◌∷◌, Some}
 use Rattle.laws.specs.Prelude.{Bool, true, false, List, [], map, ℕ, binary32, of_bits, length}
 use Rattle.styling.specs.declared.BlendMode.TheVariants.{Over}
 use Rattle.styling.specs.declared.Color.{Color}
@@ -11,7 +11,6 @@ use Rattle.styling.specs.declared.Func.TheVariants.{Draw, Clip}
 use Rattle.pass_statements.specs.Decide.{outcome_of}
 use Rattle.pass_statements.specs.Decision.{none, solid, paint}
 use Rattle.pass_statements.specs.declared.item.Item.{Item}
-use Rattle.pass_statements.specs.declared.unchanged.PreviousCount.TheVariants.{Kept}
 use Rattle.kept_frames.specs.Picture.{picture_of, decision_afresh}
 use Rattle.kept_frames.specs.Told.{Told}
 use Rattle.kept_frames.specs.Alike.{may_keep_count}
@@ -40,7 +39,7 @@ seen_ids items = map (λ s. s.layer.id) (picture_of items)
 -- the tile is kept, with the clear colour unchanged, and shows other layers than are due
 pub record KeptWrongly (before now : List Item) (shows due : List ℕ) : Type 0 where
   pub frames : Frames before now
-  pub kept : (outcome_of black true (Kept (length before)) now).decision ≡ none
+  pub kept : (outcome_of black true (Some (length before)) now).decision ≡ none
   pub shown : seen_ids before ≡ shows
   pub fresh : seen_ids now ≡ due
 
@@ -78,7 +77,7 @@ next_frame = full 1 (draw red false) true ∷ full 2 (draw red false) true ∷ [
 
 pub record SinceLastFrame : Type 0 where
   pub told : Told not_worked next_frame
-  pub kept : (outcome_of black true (Kept (length over_red)) next_frame).decision ≡ none
+  pub kept : (outcome_of black true (Some (length over_red)) next_frame).decision ≡ none
   pub shown : seen_ids over_red ≡ 1 ∷ 2 ∷ []
   pub fresh : seen_ids next_frame ≡ 2 ∷ []
 
@@ -96,7 +95,7 @@ ended_clip = full 0 (draw red false) true ∷ half true ∷ full 2 (draw green t
 pub record KeptOtherwise : Type 0 where
   pub frames : Frames followed_clip ended_clip
   pub stays : list_stays followed_clip ended_clip ≡ true
-  pub kept : (outcome_of black true (Kept (length followed_clip)) ended_clip).decision ≡ none
+  pub kept : (outcome_of black true (Some (length followed_clip)) ended_clip).decision ≡ none
   pub was : decision_afresh black followed_clip ≡ paint
   pub is : decision_afresh black ended_clip ≡ solid red 1
   pub rule : may_keep_count black black followed_clip ended_clip ≡ false

@@ -1,7 +1,8 @@
 -- The history of specs/Example, by the existence of runs. Assumes nothing.
-use Rattle.std.specs.Prelude.{◌≡◌, ◌∷◌}
+use Rattle.std.specs.Prelude.{◌≡◌, ◌∷◌, Option, None, Some, Ok}
 use Rattle.laws.proofs.Prelude.{refl, Bool, true, false, cond, false≢true, List, [], ℕ, eqb, binary32, eq, odd, of_bits, pos, replicate}
 use Rattle.laws.proofs.Prelude.{given, refused}
+use Rattle.styling.specs.declared.Color.{Color}
 use Rattle.refusals.specs.Refusal.{pass}
 use Rattle.pixel_segment.specs.Field.{cover_of, tile_of}
 use Rattle.segment_rows.specs.Rows.{Words, ascends_from}
@@ -25,10 +26,7 @@ use Rattle.pass_statements.specs.Covered.{covered_from}
 use Rattle.pass_statements.specs.Rules.{latest_clip}
 use Rattle.pass_statements.specs.Decide.{shown_from, outcome_of}
 use Rattle.layer_workbench.specs.Work.{outcome_by_entries}
-use Rattle.layer_workbench.specs.declared.PreviousClear.{PreviousClear}
-use Rattle.layer_workbench.specs.declared.PreviousClear.TheVariants as previous
 use Rattle.row_carries.specs.Carries.{queue_after}
-use Rattle.painter.specs.declared.Clip.TheVariants.{Absent}
 use Rattle.row_statements.specs.Lent.{Columns, queue_over}
 use Rattle.row_statements.specs.Opening.{left_of, open_verdict, open_count, open_of, OpensRow}
 use Rattle.row_statements.specs.TileWork.{list_verdict, work_out}
@@ -36,7 +34,6 @@ use Rattle.row_statements.specs.Due.{OpenRow, WorkChoice, work_due_verdict}
 use Rattle.row_statements.specs.Run.{open_row, held_first}
 use Rattle.row_statements.specs.Example.{room, list, black}
 use Rattle.row_statements.specs.declared.RowState.{RowState}
-use Rattle.row_statements.specs.declared.Opened.TheVariants as opened
 use Rattle.row_statements.proofs.Example.{small}
 use Rattle.row_statements.proofs.Runs.{held_work}
 use Rattle.kept_frames.specs.Display.{Display, displayed}
@@ -53,7 +50,7 @@ in_words : Words (frame_call 0).row
 in_words = record { small = λ i. small i (frame_call 0).row refl }
 
 abbrev begun : RowState
-begun = record { tile_y = 0; from = 0; to = 1; next = 0; left = 1; taken = 0; clip = Absent }
+begun = record { tile_y = 0; from = 0; to = 1; next = 0; left = 1; taken = 0; clip = None }
 
 abbrev held : ℕ → Columns
 held u = queue_over (open_queue (left_of (frame_call u))) (room 256)
@@ -62,23 +59,23 @@ counted : (open_count (open_verdict (frame_call 0) (room 256)) (left_of (frame_c
 unfolding open_verdict is_table_short is_valid is_table strictly_ascends_from ascends_from layer_at is_light_opening is_light add_to add_all cover_of left_part search_of halved tile_of
 counted = (refl, refl)
 
-opens_first : OpensRow (open_of (frame_call 0) (room 256)) (opened.Row begun) (held 0)
+opens_first : OpensRow (open_of (frame_call 0) (room 256)) (Ok begun) (held 0)
 unfolding open_of
 opens_first = rw counted.0 (record { answer = refl; lent_is = refl })
 
-opens_second : OpensRow (open_of (frame_call 1) (room 256)) (opened.Row begun) (held 1)
+opens_second : OpensRow (open_of (frame_call 1) (room 256)) (Ok begun) (held 1)
 unfolding open_of
 opens_second = rw counted.1 (record { answer = refl; lent_is = refl })
 
-abbrev chosen : CachedTile → PreviousClear → WorkChoice
+abbrev chosen : CachedTile → Option Color → WorkChoice
 chosen k p = record { tile = pos 0; kept = lent_tile k; clear = black; previous = p; queue = room 256; lent = record { queue = room 256; list = list } }
 
-first_passes : work_due_verdict (open_row (frame_call 0)) 0 (held_work (held_first begun (held 0)) (chosen empty_tile previous.Absent)) ≡ pass
+first_passes : work_due_verdict (open_row (frame_call 0)) 0 (held_work (held_first begun (held 0)) (chosen empty_tile None)) ≡ pass
 unfolding list_verdict list_of groups_of handed_on queue_after add_to add_all left_part tile_part layer_part search_of halved lookup table_of layer_at is_light carry_of is_empty held_in cover_of tile_of
 first_passes = refl
 
 abbrev first_work : AcceptedWork
-first_work = once (frame_call 0) (room 256) (held 0) begun in_words opens_first [] (chosen empty_tile previous.Absent) first_passes
+first_work = once (frame_call 0) (room 256) (held 0) begun in_words opens_first [] (chosen empty_tile None) first_passes
 
 -- the tile after the first frame, its four bytes settled
 abbrev bytes : List ℕ
@@ -93,12 +90,12 @@ second = record { row = open_row (frame_call 1); revisions = []; place = 0; clea
 abbrev kept_tile : CachedTile
 kept_tile = kept_if (may_keep_tile (worked_of first_work) second) settled_tile
 
-second_passes : work_due_verdict (open_row (frame_call 1)) 0 (held_work (held_first begun (held 1)) (chosen kept_tile (previous.Given black))) ≡ pass
+second_passes : work_due_verdict (open_row (frame_call 1)) 0 (held_work (held_first begun (held 1)) (chosen kept_tile (Some black))) ≡ pass
 unfolding work_out outcome_by_entries outcome_of clips_from step_of covered_from shown_from latest_clip strokes_from is_full eq of_bits odd list_verdict list_of groups_of handed_on queue_after add_to add_all left_part tile_part layer_part search_of halved lookup table_of layer_at is_light carry_of is_empty held_in cover_of tile_of
 second_passes = refl
 
 abbrev second_work : AcceptedWork
-second_work = once (frame_call 1) (room 256) (held 1) begun in_words opens_second [] (chosen kept_tile (previous.Given black)) second_passes
+second_work = once (frame_call 1) (room 256) (held 1) begun in_words opens_second [] (chosen kept_tile (Some black)) second_passes
 
 -- whatever the id, both tables say the same but for the flag
 told : RowTold (open_row (frame_call 0)) (open_row (frame_call 1))

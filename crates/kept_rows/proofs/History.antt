@@ -1,6 +1,6 @@
 -- The theorem over frames: what stands of a tile is right after each of them. Assumes nothing.
-use Rattle.std.specs.Prelude.{◌≡◌, ◌+◌, ◌%◌, ◌^◌, ◌≤◌}
-use Rattle.laws.proofs.Prelude.{refl, sym, ap, ◌∙◌, Bool, true, false, List, ⊎_elim, some, ℕ, arith, length, either}
+use Rattle.std.specs.Prelude.{◌≡◌, ◌+◌, ◌%◌, ◌^◌, ◌≤◌, Option}
+use Rattle.laws.proofs.Prelude.{refl, sym, ap, ◌∙◌, Bool, true, false, List, ⊎_elim, Some, ℕ, arith, length, either}
 use Rattle.cached_tile.specs.Tile.{empty_tile, layer_count_of, keep_count, drop_count, drop_color}
 use Rattle.cached_tile.specs.Kept.{previous_count, counted}
 use Rattle.cached_tile.specs.declared.CachedTile.{CachedTile}
@@ -9,10 +9,9 @@ use Rattle.cached_tile.proofs.Counts.{count_kept, count_left, count_dropped}
 use Rattle.pass_statements.specs.Decide.{Outcome, outcome_of}
 use Rattle.pass_statements.specs.Decision.{TileDecision, none, solid, paint}
 use Rattle.pass_statements.specs.declared.item.Item.{Item}
-use Rattle.pass_statements.specs.declared.unchanged.PreviousCount.{PreviousCount}
 use Rattle.pass_statements.specs.Unchanged.{is_kept}
 use Rattle.pass_statements.proofs.Outcomes.{outcome_kept}
-use Rattle.layer_workbench.specs.Work.{clear_unchanged, count_from, outcome_by_entries, kept_by}
+use Rattle.layer_workbench.specs.Work.{clear_unchanged, outcome_by_entries, kept_by}
 use Rattle.row_statements.specs.Due.{layers_on}
 use Rattle.row_statements.specs.InnerHolding.{IsOpen}
 use Rattle.kept_frames.specs.Display.{Display, KeepsShown}
@@ -43,7 +42,7 @@ tile_by_lem paint k n = refl
 -- the count is that of the work, and a colour is kept only where it is displayed
 pub record Stands (k : CachedTile) (d : Display) (n : ℕ) : Type 0 where
   pub shows : KeepsShown k d
-  pub count : layer_count_of k ≡ some n
+  pub count : layer_count_of k ≡ Some n
 
 after : {c : TileDecision} {t k : CachedTile} {d d' : Display} {n : ℕ} → Drawing c t d k d' → (b : CachedTile) → t ≡ tile_by c b → Stands b d n → Stands k d' n
 after Drawing.leaves b e s = rw e s
@@ -57,7 +56,7 @@ whole : (n : ℕ) → n ≤ 256 → n % 2 ^ 24 ≡ n
 whole n h = omega (arith, h)
 
 counted_stands : (b : CachedTile) (d : Display) (n : ℕ) → n ≤ 256 → KeepsShown b d → Stands (keep_count b n) d n
-counted_stands b d n h s = record { shows = (solid_right b d s).none n; count = count_kept b s.tag n ∙ ap some (whole n h) }
+counted_stands b d n h s = record { shows = (solid_right b d s).none n; count = count_kept b s.tag n ∙ ap Some (whole n h) }
 
 module _ (a : AcceptedWork) (b : CachedTile) (e : a.done.before ≡ lent_tile b) where
   abbrev long : ℕ
@@ -80,10 +79,10 @@ module _ (a : AcceptedWork) (b : CachedTile) (e : a.done.before ≡ lent_tile b)
   abbrev clear_same : Bool
   clear_same = clear_unchanged a.done.previous a.done.clear
 
-  decided : a.done.decision ≡ (outcome_of a.done.clear clear_same (count_from (layer_count_of b)) (items_for (worked_of a))).decision
+  decided : a.done.decision ≡ (outcome_of a.done.clear clear_same (layer_count_of b) (items_for (worked_of a))).decision
   decided =
       decided_by a
-      ∙ ap (λ (k : kept.Kept). (outcome_of a.done.clear clear_same (count_from (previous_count k)) (items_for (worked_of a))).decision) e
+      ∙ ap (λ (k : kept.Kept). (outcome_of a.done.clear clear_same (previous_count k) (items_for (worked_of a))).decision) e
 
 pub first_drawn : FirstDrawn
 first_drawn a e h =
@@ -96,9 +95,9 @@ kept_shows true k d s = s
 kept_shows false k d s = (solid_right k d s).uncounted
 
 kept_count : (may : Bool) (before : List Item) (k : CachedTile) (d : Display) → Stands k d (length before)
-    → count_from (layer_count_of (kept_if may k)) ≡ count_by may before
-kept_count true before k d s = ap count_from s.count
-kept_count false before k d s = ap count_from (count_dropped k s.shows.tag)
+    → (layer_count_of (kept_if may k)) ≡ count_by may before
+kept_count true before k d s = s.count
+kept_count false before k d s = count_dropped k s.shows.tag
 
 -- ---- through frames
 
@@ -130,7 +129,7 @@ frame_held {t} (Frame.again {k = k} {d = d} {drawn = drawn} {last = last} a e to
     let along = told_along h.row_is (row_open a) told.flags last.place now.place (h.tile_is ∙ sym e) in
     let right : a.done.decision ≡ none → ShowsSame last.clear now.clear (items_for last) (items_for now) =
     λ z. none_right last.clear now.clear same (items_for last) (items_for now) along.frames
-    (ap (λ (n : PreviousCount). (outcome_of a.done.clear same n (items_for now)).decision) (sym (kept_count may (items_for last) k d h.stands)) ∙ sym
+    (ap (λ (n : Option ℕ). (outcome_of a.done.clear same n (items_for now)).decision) (sym (kept_count may (items_for last) k d h.stands)) ∙ sym
     (decided a b q) ∙ z) in
     record {
       row_is = row_open a;
@@ -141,8 +140,8 @@ frame_held {t} (Frame.again {k = k} {d = d} {drawn = drawn} {last = last} a e to
 frame_held {t} (Frame.anew {k = k} {d = d} {drawn = drawn} {last = last} a e q g) h =
     let now = worked_of a in
     let drawn_now : a.done.decision ≡ none → ⊥ = λ z. uncounted_drawn a.done.clear (clear_unchanged a.done.previous a.done.clear) (items_for now)
-    (ap (λ (n : PreviousCount). (outcome_of a.done.clear (clear_unchanged a.done.previous a.done.clear) n (items_for now)).decision)
-    (sym (ap count_from (count_dropped k h.stands.shows.tag))) ∙ sym (decided a (drop_count k) q) ∙ z) in
+    (ap (λ (n : Option ℕ). (outcome_of a.done.clear (clear_unchanged a.done.previous a.done.clear) n (items_for now)).decision)
+    (sym (count_dropped k h.stands.shows.tag)) ∙ sym (decided a (drop_count k) q) ∙ z) in
     record {
       row_is = row_open a;
       tile_is = e;
@@ -174,7 +173,7 @@ pub work_shows : WorkShows
 unfolding outcome_by_entries
 work_shows a drawn =
     let same = clear_unchanged a.done.previous a.done.clear in
-    let count = count_from (previous_count a.done.before) in
+    let count = (previous_count a.done.before) in
     let items = items_for (worked_of a) in
     let afresh = worked_afresh a.done.clear same count items
     (⊎_elim

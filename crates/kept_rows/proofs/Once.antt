@@ -1,5 +1,5 @@
 -- After every accepted opening, every work on its first tile that no condition refuses is an accepted work of some run. Assumes nothing.
-use Rattle.std.specs.Prelude.{◌≡◌, ◌∷◌}
+use Rattle.std.specs.Prelude.{◌≡◌, ◌∷◌, Ok}
 use Rattle.laws.proofs.Prelude.{ap, ◌∙◌, List, [], ℕ, given}
 use Rattle.refusals.specs.Refusal.{Judgement, pass}
 use Rattle.segment_rows.specs.Rows.{Words}
@@ -10,14 +10,13 @@ use Rattle.row_statements.specs.Due.{at_first, WorkChoice, work_due_verdict, say
 use Rattle.row_statements.specs.Run.{open_row, Held, held_first, Event, Step}
 use Rattle.row_statements.specs.InnerHolding.{IsOpen, Holds}
 use Rattle.row_statements.specs.declared.RowState.{RowState}
-use Rattle.row_statements.specs.declared.Opened.TheVariants as opened
 use Rattle.row_statements.proofs.Run.{accepted, is_open, held_first_lem}
 use Rattle.row_statements.proofs.Runs.{work_result, work_named, work_gives, as_held, held_work, work_goes}
 use Rattle.listing_runs.specs.Run.{held_with, RowCall, CallStep, RowCalls}
 use Rattle.two_rows.specs.Apart.{MadeCall}
 use Rattle.kept_rows.specs.History.{DoneIn, AcceptedWork}
 
-module _ (call : OpenCall) (lent back : Columns) (s : RowState) (words : Words call.row) (opens : OpensRow (open_of call lent) (opened.Row s) back) where
+module _ (call : OpenCall) (lent back : Columns) (s : RowState) (words : Words call.row) (opens : OpensRow (open_of call lent) (Ok s) back) where
   abbrev held : Held
   held = held_first s back
 

@@ -1,6 +1,6 @@
 -- The paintings of a tile's shown layers are the strokes of its picture, with the row's coverages and revisions. Assumes nothing.
 use Rattle.std.specs.Prelude.{◌≡◌, ◌&&◌, ◌∷◌, ◌<◌}
-use Rattle.laws.proofs.Prelude.{refl, sym, ap, ap₂, ◌∙◌, Bool, true, false, cond, not, List, [], map, Option, none, ℕ, zero, suc}
+use Rattle.laws.proofs.Prelude.{refl, sym, ap, ap₂, ◌∙◌, Bool, true, false, cond, not, List, [], map, Option, None, ℕ, zero, suc}
 use Rattle.laws.proofs.Prelude.{arith, Float, length, Answer, refused, given}
 use Rattle.layer_table.specs.Lookup.{lookup}
 use Rattle.styling.specs.declared.Func.{Func}
@@ -44,7 +44,7 @@ mark_by_lem : (f : Func) (needs : Bool) (alive : Option ℕ) (plane : List Float
 mark_by_lem (Draw style) needs alive plane = refl
 mark_by_lem (Clip span) needs alive plane = refl
 
-mask_planes : (planes : ℕ → List Float) (t : Bool) (mask : Option ℕ) → cond t (planes_of planes mask) none ≡ planes_of planes (cond t mask none)
+mask_planes : (planes : ℕ → List Float) (t : Bool) (mask : Option ℕ) → cond t (planes_of planes mask) None ≡ planes_of planes (cond t mask None)
 mask_planes planes true mask = refl
 mask_planes planes false mask = refl
 
@@ -97,6 +97,6 @@ module _ (o : OpenRow) (revisions : List ℕ) (n : ℕ) where
 
 pub layers_painted : LayersPainted
 layers_painted w =
-    paintings w.row w.revisions w.place (shown_afresh (items_for w)) none none
+    paintings w.row w.revisions w.place (shown_afresh (items_for w)) None None
     (each_shown (λ x. func_on w.row x.id ≡ x.func) _ (items_for w) (marks_of (items_for w)).unmasked
     (λ i l m q. func_at (table_on w.row) (map (entry_of (table_on w.row)) (layers_on w.row w.place)) i l))

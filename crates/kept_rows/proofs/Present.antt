@@ -1,7 +1,7 @@
 -- What a list says of a layer, and what the passes read of it but for its flag. Assumes nothing.
 use Rattle.std.specs.Prelude.{◌≡◌, ◌&&◌, ◌∷◌, ◌≤◌}
 use Rattle.laws.proofs.Prelude.{refl, sym, ap, ap₂, ◌∙◌, Bool, true, false, cond, not, false≢true, List, [], map, inl, inr, Option}
-use Rattle.laws.proofs.Prelude.{some, none, ℕ, suc, arith, eq-eqb, ne_eqb, eqb-true, eqb, Answer, refused, given}
+use Rattle.laws.proofs.Prelude.{Some, None, ℕ, suc, arith, eq-eqb, ne_eqb, eqb-true, eqb, Answer, refused, given}
 use Rattle.styling.specs.Ascending.{strictly_ascends_from}
 use Rattle.styling.specs.declared.Func.TheVariants.{Clip}
 use Rattle.styling.specs.declared.Layer.{Layer}
@@ -37,40 +37,40 @@ item_present table e = by (lookup table e.id)
 -- ---- whom a list has
 
 or_else : Presence → Option Presence → Presence
-or_else p none = p
-or_else p (some q) = q
+or_else p None = p
+or_else p (Some q) = q
 
-some_is : {p q : Presence} → some p ≡ some q → p ≡ q
+some_is : {p q : Presence} → Some p ≡ Some q → p ≡ q
 unfolding or_else
 some_is {p} {q} e = ap (or_else p) e
 
 is_some : Option Presence → Bool
-is_some none = false
-is_some (some p) = true
+is_some None = false
+is_some (Some p) = true
 
-not_none : {p : Presence} → none ≡ some p → ⊥
+not_none : {p : Presence} → None ≡ Some p → ⊥
 unfolding is_some
 not_none e = false≢true (ap is_some e)
 
-pub was_from : (table : List Layer) (es : List Entry) (id : ℕ) (p : Presence) → entry_in es id ≡ some p → (x : Item)
+pub was_from : (table : List Layer) (es : List Entry) (id : ℕ) (p : Presence) → entry_in es id ≡ Some p → (x : Item)
     → present_item (props_by (lookup table id)) p ≡ unflagged x → WasListed x (items_of table es)
 unfolding entry_in
 was_from table [] id p e x h = not_none e
 was_from table (d ∷ es) id p e x h = by (eqb d.id id) refl e (λ r. was_from table es id p r x h)
   where
-    by : (t : Bool) → eqb d.id id ≡ t → cond t (some (presence_of d)) (entry_in es id) ≡ some p → (entry_in es id ≡ some p → WasListed x (items_of table es))
+    by : (t : Bool) → eqb d.id id ≡ t → cond t (Some (presence_of d)) (entry_in es id) ≡ Some p → (entry_in es id ≡ Some p → WasListed x (items_of table es))
         → WasListed x (items_of table (d ∷ es))
     by true s q r = inl (item_present table d ∙ ap₂ (λ (i : ℕ) (z : Presence). present_item (props_by (lookup table i)) z) (eqb-true d.id id s) (some_is q) ∙ h)
     by false s q r = inr (r q)
 
 entry_above : (table : List Layer) (ls : List Listed) (low id : ℕ) (p : Presence) → strictly_ascends_from low (listed_ids ls) ≡ true
-    → entry_in (map (entry_of table) ls) id ≡ some p → low ≤ id
+    → entry_in (map (entry_of table) ls) id ≡ Some p → low ≤ id
 unfolding entry_in
 entry_above table [] low id p a e = absurd (not_none e)
 entry_above table (l ∷ ls) low id p a e = by (eqb l.id id) refl e (entry_above table ls (suc l.id) id p (ascends_tail low l.id (listed_ids ls) a))
   where
-    by : (t : Bool) → eqb l.id id ≡ t → cond t (some (presence_of (entry_of table l))) (entry_in (map (entry_of table) ls) id) ≡ some p
-        → (entry_in (map (entry_of table) ls) id ≡ some p → suc l.id ≤ id) → low ≤ id
+    by : (t : Bool) → eqb l.id id ≡ t → cond t (Some (presence_of (entry_of table l))) (entry_in (map (entry_of table) ls) id) ≡ Some p
+        → (entry_in (map (entry_of table) ls) id ≡ Some p → suc l.id ≤ id) → low ≤ id
     by true s q r = omega (arith, eqb-true l.id id s, ascends_head low l.id (listed_ids ls) a)
     by false s q r = omega (arith, r q, ascends_head low l.id (listed_ids ls) a)
 
@@ -79,7 +79,7 @@ entry_above table (l ∷ ls) low id p a e = by (eqb l.id id) refl e (entry_above
 module _ (before : List Item) (table : List Layer) where
   -- an unchanged layer of the list was listed before
   abbrev pub Founds : List Listed → Type 0
-  Founds ls = (id : ℕ) (p : Presence) → entry_in (map (entry_of table) ls) id ≡ some p → is_changed table id ≡ false → (x : Item) → unflagged x ≡ present_item (props_by (lookup table id)) p → WasListed x before
+  Founds ls = (id : ℕ) (p : Presence) → entry_in (map (entry_of table) ls) id ≡ Some p → is_changed table id ≡ false → (x : Item) → unflagged x ≡ present_item (props_by (lookup table id)) p → WasListed x before
 
   unmarked : (l : Listed) → (item_of table (entry_of table l)).unchanged ≡ true → is_changed table l.id ≡ false
   unmarked l u = opposite (is_changed table l.id) (sym (mark_read table (entry_of table l)) ∙ u)
@@ -100,10 +100,10 @@ module _ (before : List Item) (table : List Layer) where
       tail : strictly_ascends_from (suc l.id) (listed_ids ls) ≡ true
       tail = ascends_tail low l.id (listed_ids ls) a
 
-      here : entry_in (map (entry_of table) (l ∷ ls)) l.id ≡ some (presence_of (entry_of table l))
+      here : entry_in (map (entry_of table) (l ∷ ls)) l.id ≡ Some (presence_of (entry_of table l))
       here = rw (eq-eqb l.id l.id refl)
 
-      past : (id : ℕ) (p : Presence) → entry_in (map (entry_of table) ls) id ≡ some p → entry_in (map (entry_of table) (l ∷ ls)) id ≡ some p
+      past : (id : ℕ) (p : Presence) → entry_in (map (entry_of table) ls) id ≡ Some p → entry_in (map (entry_of table) (l ∷ ls)) id ≡ Some p
       past id p e =
           let above = entry_above table ls (suc l.id) id p tail e in
           rw (ne_eqb l.id id (λ q. omega (arith, q, above))) e

@@ -1,10 +1,10 @@
 -- The paintings of shown layers are read as `paint_on` says. Assumes nothing.
 use Rattle.std.specs.Prelude.{◌≡◌, ◌∷◌, ◌-◌}
 use Rattle.laws.proofs.Prelude.{refl, sym, ap, subst, ◌∙◌, List, [], Option, ℕ, arith, Float, given, over}
-use Rattle.refusals.specs.Refusal.{Judgement, pass, refuse}
+use Rattle.refusals.specs.Refusal.{Judgement, pass, refuse, given_or_refused}
 use Rattle.pass_statements.specs.declared.item.Item.{Item}
 use Rattle.painter.specs.Clip.{clip_after}
-use Rattle.row_statements.specs.Painting.{PaintSays, paint_answer, paint_out}
+use Rattle.row_statements.specs.Painting.{PaintSays, paint_out}
 use Rattle.row_statements.specs.Due.{OpenRow, Past, PaintChoice, state_on, func_on, paint_on, paint_due_verdict, past_paint}
 use Rattle.row_statements.specs.Run.{Event}
 use Rattle.row_statements.specs.Claim.{RightPaint, past_after}
@@ -23,16 +23,16 @@ says_next o n clip x xs = refl
 -- an accepted painting
 pub record Read (o : OpenRow) (p : Past) (c : PaintChoice) (r : Painted) (back : List Float) : Type 0 where
   pub passes : paint_due_verdict o p.tiles c ≡ pass
-  pub mark : paint_answer r.answer ≡ given (paint_on o (p.tiles - 1) c.layer p.clip).mark
+  pub mark : given_or_refused r.answer ≡ given (paint_on o (p.tiles - 1) c.layer p.clip).mark
   pub plane : back ≡ over (paint_on o (p.tiles - 1) c.layer p.clip).plane c.plane
 
-one : {o : OpenRow} {p : Past} {c : PaintChoice} {r : Painted} {back : List Float} {mark : ℕ} → RightPaint o p c r back → paint_answer r.answer ≡ given mark
+one : {o : OpenRow} {p : Past} {c : PaintChoice} {r : Painted} {back : List Float} {mark : ℕ} → RightPaint o p c r back → given_or_refused r.answer ≡ given mark
     → Read o p c r back
 unfolding paint_out
 one {o} {p} {c} {r} {back} {mark} right a = by (paint_due_verdict o p.tiles c) refl right.answer right.plane
   where
     by : (v : Judgement) → paint_due_verdict o p.tiles c ≡ v
-        → paint_answer r.answer ≡ (paint_out v (paint_on o (p.tiles - 1) c.layer p.clip) (state_on o p) c.plane).answer
+        → given_or_refused r.answer ≡ (paint_out v (paint_on o (p.tiles - 1) c.layer p.clip) (state_on o p) c.plane).answer
         → back ≡ (paint_out v (paint_on o (p.tiles - 1) c.layer p.clip) (state_on o p) c.plane).plane
         → Read o p c r back
     by (refuse m) e g b = absurd (let z : ◌≡◌ {A = ℕ} 0 1 = cc in omega arith)

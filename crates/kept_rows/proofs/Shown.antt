@@ -1,6 +1,6 @@
 -- A tile that is decided *none* would be drawn afresh as it was, by styles, revisions, coverages, cuts and marks. Assumes nothing.
 use Rattle.std.specs.Prelude.{◌≡◌, ◌∷◌}
-use Rattle.laws.proofs.Prelude.{refl, sym, ap, ◌∙◌, List, [], map, Option, some, none, ℕ, Float}
+use Rattle.laws.proofs.Prelude.{refl, sym, ap, ◌∙◌, List, [], map, Option, Some, None, ℕ, Float}
 use Rattle.row_statements.specs.Due.{table_on, layers_on, plane_on}
 use Rattle.kept_frames.specs.Picture.{Stroke, picture_of, Drawn}
 use Rattle.kept_frames.specs.Right.{MaskUnchanged, StrokesUnchanged, ShowsSame}
@@ -23,8 +23,8 @@ module _ (last now : WorkedTile) (told : ToldAlong last.row now.row last.place n
   holds = revision_on now.row now.revisions
 
   same_mask : (c : Option ℕ) → MaskUnchanged (items_for now) c → planes_of old c ≡ planes_of new c
-  same_mask none m = refl
-  same_mask (some id) m = ap some (told.planes id (listed_unchanged [] (table_on now.row) (layers_on now.row now.place) id m))
+  same_mask None m = refl
+  same_mask (Some id) m = ap Some (told.planes id (listed_unchanged [] (table_on now.row) (layers_on now.row now.place) id m))
 
   -- unchanged layers are painted alike
   same_layers : (ss : List Stroke) → StrokesUnchanged (items_for now) ss → map (painted old held) ss ≡ map (painted new holds) ss

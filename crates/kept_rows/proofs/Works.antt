@@ -1,13 +1,13 @@
 -- What an accepted work says of its tile, by the whole row. Assumes nothing.
 use Rattle.std.specs.Prelude.{◌≡◌, ◌||◌, ◌≤◌}
 use Rattle.laws.proofs.Prelude.{refl, sym, ap, ◌∙◌, not, Bool, List, map, ℕ, suc, arith, ltb-false, length, length-map, given}
-use Rattle.refusals.specs.Refusal.{Judgement, pass, refuse, unless}
+use Rattle.refusals.specs.Refusal.{Judgement, pass, refuse, unless, given_or_refused}
 use Rattle.refusals.proofs.Judging.{passed}
 use Rattle.cached_tile.specs.Kept.{tag_out_of_range, previous_count, counted}
 use Rattle.tile_layers.specs.Listing.{is_too_many, are_known, are_light}
 use Rattle.pass_statements.specs.Decide.{outcome_of}
 use Rattle.pass_statements.specs.Item.{item_of}
-use Rattle.layer_workbench.specs.Work.{entry_of, clear_unchanged, count_from, outcome_by_entries, kept_by}
+use Rattle.layer_workbench.specs.Work.{entry_of, clear_unchanged, outcome_by_entries, kept_by}
 use Rattle.row_statements.specs.Lent.{is_queue_short, is_list_short}
 use Rattle.row_statements.specs.TileWork.{WorkLent, TileAnswer, list_verdict, tile_answer, work_out, work_answer}
 use Rattle.row_statements.specs.declared.TileWorked.{TileWorked}
@@ -15,7 +15,7 @@ use Rattle.row_statements.specs.Due.{OpenRow, Past, at_first, table_on, queue_on
 use Rattle.row_statements.specs.Claim.{RightWork}
 use Rattle.row_statements.specs.InnerHolding.{IsOpen}
 use Rattle.row_statements.proofs.Run.{accepted, is_open}
-use Rattle.listing_statements.specs.Listing.{ListLent, is_tile_list_short, list_answer, listing_out}
+use Rattle.listing_statements.specs.Listing.{ListLent, is_tile_list_short, listing_out}
 use Rattle.listing_statements.specs.Deciding.{DecideSays, decide_answer, deciding_out}
 use Rattle.listing_statements.specs.declared.TileListed.{TileListed}
 use Rattle.listing_statements.specs.declared.TileDecided.{TileDecided}
@@ -80,7 +80,7 @@ module _ (o : OpenRow) where
             few = few_listed o p.tiles c e;
           }
 
-  few_by_list : {p : Past} {c : ListChoice} {r : TileListed} {back : ListLent} {n : ℕ} → RightListing o p c r back → list_answer r.answer ≡ given n
+  few_by_list : {p : Past} {c : ListChoice} {r : TileListed} {back : ListLent} {n : ℕ} → RightListing o p c r back → given_or_refused r.answer ≡ given n
       → length (layers_on o p.tiles) ≤ 256
   unfolding listing_out
   few_by_list {p} {c} {r} {back} {n} right a = by (list_due_verdict o p.tiles c) refl (sym a ∙ right.gives.answer)
@@ -123,7 +123,7 @@ module _ (a : AcceptedWork) where
   said = said_of (open_on a) a.calls a.done (run a.call a.lent a.back a.state a.calls a.held a.words a.opens a.run).1 a.made
 
   -- in the words of the passes
-  pub decided_by : a.done.decision ≡ (outcome_of a.done.clear (clear_unchanged a.done.previous a.done.clear) (count_from (previous_count a.done.before)) (items_for (worked_of a))).decision
+  pub decided_by : a.done.decision ≡ (outcome_of a.done.clear (clear_unchanged a.done.previous a.done.clear) (previous_count a.done.before) (items_for (worked_of a))).decision
   unfolding outcome_by_entries
   decided_by = said.decision
 

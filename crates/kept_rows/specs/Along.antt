@@ -1,7 +1,7 @@
 -- Flags that are truthful along rows: a layer that today's table calls unchanged has the same record and the same words as in the row of the tile's
 -- last accepted work, and both rows begin at one tile (W-214's agreement). Then it is truthfully unchanged in every tile, and its coverages are the
 -- same. What a gradient or a texture holds no record has: a caller numbers it, and a new number is a new content.
-use Rattle.std.specs.Prelude.{◌≡◌, ◌+◌}
+use Rattle.std.specs.Prelude.{◌≡◌, ◌+◌, Ok}
 use Rattle.laws.specs.Prelude.{false, List, ℕ, get_or, Answer, refused, given}
 use Rattle.segment_rows.specs.Rows.{Words}
 use Rattle.layer_table.specs.Lookup.{lookup, record_place}
@@ -16,7 +16,6 @@ use Rattle.row_statements.specs.Opening.{OpenCall, open_of, OpensRow}
 use Rattle.row_statements.specs.Due.{OpenRow, table_on, plane_on}
 use Rattle.row_statements.specs.Run.{open_row}
 use Rattle.row_statements.specs.declared.RowState.{RowState}
-use Rattle.row_statements.specs.declared.Opened.TheVariants as opened
 use Rattle.two_rows.specs.Apart.{AgreeOn}
 use Rattle.kept_frames.specs.Right.{Frames}
 
@@ -60,8 +59,8 @@ RowsTold =
     (c c' : OpenCall) (lent lent' back back' : Columns) (s s' : RowState) →
     Words c.row →
     Words c'.row →
-    OpensRow (open_of c lent) (opened.Row s) back →
-    OpensRow (open_of c' lent') (opened.Row s') back' →
+    OpensRow (open_of c lent) (Ok s) back →
+    OpensRow (open_of c' lent') (Ok s') back' →
     RowTold (open_row c) (open_row c') →
     (n n' : ℕ) → (open_row c).from + n ≡ (open_row c').from + n' →
     ToldAlong (open_row c) (open_row c') n n'

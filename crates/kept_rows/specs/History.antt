@@ -3,8 +3,9 @@
 -- is kept only by the keep rule, and every solid tile is settled and obeyed. Then what stands in the tile is always what drawing it afresh at its last
 -- accepted work draws, by the same decision and the same calls. A frame in which the tile is not worked, or turned down, leaves it as it is; and it may be
 -- forgotten.
-use Rattle.std.specs.Prelude.{◌≡◌, ◌+◌}
+use Rattle.std.specs.Prelude.{◌≡◌, ◌+◌, Option, Ok}
 use Rattle.laws.specs.Prelude.{Bool, true, cond, List, [], ℕ, given}
+use Rattle.refusals.specs.Refusal.{given_or_refused}
 use Rattle.segment_rows.specs.Rows.{Words}
 use Rattle.styling.specs.declared.Color.{Color}
 use Rattle.cached_tile.specs.Tile.{empty_tile, drop_count, keep_color}
@@ -13,7 +14,6 @@ use Rattle.cached_tile.specs.declared.CachedTile.{CachedTile}
 use Rattle.cached_tile.specs.declared.kept.Kept as kept
 use Rattle.pass_statements.specs.Decide.{shown_of}
 use Rattle.pass_statements.specs.Decision.{TileDecision, none, solid, paint}
-use Rattle.layer_workbench.specs.declared.PreviousClear.{PreviousClear}
 use Rattle.row_statements.specs.Lent.{Columns}
 use Rattle.row_statements.specs.Opening.{OpenCall, open_of, OpensRow}
 use Rattle.row_statements.specs.TileWork.{WorkLent, TileAnswer, work_answer}
@@ -21,8 +21,7 @@ use Rattle.row_statements.specs.Due.{outcome_on, OpenRow, Past, at_first, WorkCh
 use Rattle.row_statements.specs.Run.{open_row, held_first, Event}
 use Rattle.row_statements.specs.declared.RowState.{RowState}
 use Rattle.row_statements.specs.declared.TileWorked.{TileWorked}
-use Rattle.row_statements.specs.declared.Opened.TheVariants as opened
-use Rattle.listing_statements.specs.Listing.{ListLent, list_answer}
+use Rattle.listing_statements.specs.Listing.{ListLent}
 use Rattle.listing_statements.specs.Deciding.{DecideSays, decide_answer}
 use Rattle.listing_statements.specs.declared.TileListed.{TileListed}
 use Rattle.listing_statements.specs.declared.TileDecided.{TileDecided}
@@ -42,7 +41,7 @@ pub record TileDone : Type 0 where
   pub place : ℕ
   pub before : kept.Kept
   pub clear : Color
-  pub previous : PreviousClear
+  pub previous : Option Color
   pub after : kept.Kept
   pub decision : TileDecision
 
@@ -52,7 +51,7 @@ pub data DoneIn (o : OpenRow) (es : List RowCall) : TileDone → Type 0 where
       MadeCall o at_first es p (RowCall.row (Event.work c r back)) → work_answer r.answer ≡ given t →
       DoneIn o es (record { place = p.tiles; before = c.kept; clear = c.clear; previous = c.previous; after = r.kept; decision = t.decision })
   decide : {p q : Past} {l : ListChoice} {r : TileListed} {back : ListLent} {n : ℕ} {c : DecideChoice} {s : TileDecided} {masks : List Bool} {t : DecideSays} →
-      MadeCall o at_first es p (RowCall.list l r back) → list_answer r.answer ≡ given n →
+      MadeCall o at_first es p (RowCall.list l r back) → given_or_refused r.answer ≡ given n →
       MadeCall o at_first es q (RowCall.decide c s masks) → decide_answer s.answer ≡ given t →
       nth_on o c ≡ p.tiles →
       DoneIn o es (record { place = p.tiles; before = c.kept; clear = c.clear; previous = c.previous; after = s.kept; decision = t.decision })
@@ -65,7 +64,7 @@ pub record AcceptedWork : Type 0 where
   pub calls : List RowCall
   pub held : HeldAll
   pub words : Words call.row
-  pub opens : OpensRow (open_of call lent) (opened.Row state) back
+  pub opens : OpensRow (open_of call lent) (Ok state) back
   -- of what each record of the table holds
   pub revisions : List ℕ
   pub run : RowCalls (open_row call) (held_with (held_first state back) []) calls held

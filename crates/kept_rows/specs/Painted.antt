@@ -2,8 +2,9 @@
 -- its order. Every mark and every plane is that of `paint_on`, from the clip that the painting before it left: the way that `paintings_from` goes.
 use Rattle.std.specs.Prelude.{◌≡◌, ◌∷◌}
 use Rattle.laws.specs.Prelude.{List, [], Option, ℕ, suc, Float, given, over}
+use Rattle.refusals.specs.Refusal.{given_or_refused}
 use Rattle.pass_statements.specs.declared.item.Item.{Item}
-use Rattle.row_statements.specs.Painting.{PaintSays, paint_answer}
+use Rattle.row_statements.specs.Painting.{PaintSays}
 use Rattle.row_statements.specs.Due.{OpenRow, Past, PaintChoice, paint_on}
 use Rattle.row_statements.specs.Run.{Event}
 use Rattle.row_statements.specs.Claim.{past_after, AllRight}
@@ -14,7 +15,7 @@ pub data Paints (o : OpenRow) : Past → List Item → List Event → Type 0 whe
   none : {p : Past} → Paints o p [] []
   next : {p : Past} {x : Item} {xs : List Item} {c : PaintChoice} {r : Painted} {back : List Float} {mark : ℕ} {es : List Event} →
       c.layer ≡ x.id →
-      paint_answer r.answer ≡ given mark →
+      given_or_refused r.answer ≡ given mark →
       Paints o (past_after o (Event.paint c r back) p) xs es →
       Paints o p (x ∷ xs) (Event.paint c r back ∷ es)
 
@@ -27,7 +28,7 @@ says_from o n clip (x ∷ xs) = paint_on o n x.id clip ∷ says_from o n (paint_
 pub data ReadAs : List Event → List PaintSays → Type 0 where
   none : ReadAs [] []
   next : {c : PaintChoice} {r : Painted} {back : List Float} {s : PaintSays} {es : List Event} {ss : List PaintSays} →
-      paint_answer r.answer ≡ given s.mark →
+      given_or_refused r.answer ≡ given s.mark →
       back ≡ over s.plane c.plane →
       ReadAs es ss →
       ReadAs (Event.paint c r back ∷ es) (s ∷ ss)

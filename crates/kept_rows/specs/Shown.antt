@@ -3,7 +3,7 @@
 -- mark; and what cuts it: the coverages of the clip that was painted last, where the layer needs a clip and the painter has one. And the clear colour. Here our
 -- equality ends: nothing is blended, and whatever makes pixels of these makes the same of the same.
 use Rattle.std.specs.Prelude.{◌≡◌, ◌∷◌}
-use Rattle.laws.specs.Prelude.{Bool, cond, List, [], map, Option, some, none, ℕ, Float}
+use Rattle.laws.specs.Prelude.{Bool, cond, List, [], map, Option, Some, None, ℕ, Float}
 use Rattle.styling.specs.declared.Color.{Color}
 use Rattle.styling.specs.declared.Func.{Func}
 use Rattle.styling.specs.declared.Func.TheVariants.{Draw, Clip}
@@ -53,14 +53,14 @@ drawn_by w =
     record {
       clear = w.clear;
       decision = decision_afresh w.clear (items_for w);
-      layers = paintings_from w.row w.revisions w.place none none (shown_afresh (items_for w));
+      layers = paintings_from w.row w.revisions w.place None None (shown_afresh (items_for w));
     }
 
 -- ---- these are the strokes of the picture (`kept_frames/specs/Picture`), with the row's coverages and revisions
 
 abbrev pub planes_of : (ℕ → List Float) → Option ℕ → Option (List Float)
-planes_of planes none = none
-planes_of planes (some id) = some (planes id)
+planes_of planes None = None
+planes_of planes (Some id) = Some (planes id)
 
 -- a clip uses no octet, nor does a draw that lacks its clip
 abbrev pub mark_by : Func → Bool → List Float → ℕ

@@ -3,7 +3,7 @@ pub use Rattle.std.specs.Prelude.{◌%◌, ◌&&◌, ◌*◌, ◌*ℤ◌, ◌++�
 pub use Rattle.laws.specs.Prelude.{Answer, AtMost, Bool, Bool·beq, Float, HasValue, List, Option, []}
 pub use Rattle.laws.specs.Prelude.{all, any, binary32, bit_and, bool_byte, cond, count_by}
 pub use Rattle.laws.specs.Prelude.{drop, eqb, every, false, filter, fin, get_or, given, inf, is_given, le_z, leb, length, lt_z, ltb, map, max, min}
-pub use Rattle.laws.specs.Prelude.{minus, modℤ, nan, nat_abs, negsuc, neg_ℤ, none, not, paste, plus, pos, refused, replicate, set, sets, some}
+pub use Rattle.laws.specs.Prelude.{minus, modℤ, nan, nat_abs, negsuc, neg_ℤ, None, not, paste, plus, pos, refused, replicate, set, sets, Some}
 pub use Rattle.laws.specs.Prelude.{sub_ℕ, suc, sumℕ, sumℤ, tabulate, take, true, zero, ℕ, ℤ}
 unfoldable pub use Rattle.laws.specs.Prelude.{eq, fits, flatten, is_within, lt, mul, odd, of_bits, of_int, ones, over}
 pub use mathlib.Core.Bool.{and_assoc, and-false, and-true, false≢true}

@@ -2,7 +2,7 @@
 pub use Rattle.std.specs.Prelude.{Bool, ◌&&◌, ◌||◌, cond, false, not, true, List, [], ◌++◌, ◌∷◌, map, ◌⊎◌, ◌≡◌, ◌%◌, ◌*◌, ◌+◌, ◌-◌, ◌/◌, ◌<◌, ◌^◌, ◌≤◌, max, min, suc, zero, ℕ, eqb, leb, ltb, Float, ◌*ℤ◌, ◌+ℤ◌, ◌-ℤ◌, nat_abs, negsuc, neg_ℤ, pos, ℤ, drop, get_or, length, replicate, set, take}
 pub use Rattle.std.specs.Bool.{beq as Bool·beq}
 unfoldable pub use mathlib.Core.List.{flatten}
-pub use Rattle.std.proofs.Math.Option.{Option, none, some}
+pub use Rattle.std.specs.Prelude.{Option, None, Some}
 pub use Rattle.std.specs.Int.Bits.{bit_and}
 unfoldable pub use Rattle.std.specs.Int.Count.{ones}
 pub use Rattle.std.specs.Float.{binary32, fin, inf, nan}

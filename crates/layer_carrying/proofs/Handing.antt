@@ -3,7 +3,7 @@
 use Rattle.std.specs.Prelude.{◌≡◌, ◌∷◌, ◌+◌, ◌*◌, ◌≤◌}
 use Rattle.laws.proofs.Prelude.{refl, ap, sym, ◌∙◌, Bool, true, false, cond, List, [], map, ℕ, arith, ℤ}
 use Rattle.laws.proofs.Prelude.{length, drop, set, length-map, drop_of_length-le, filter, over, both, nil_le, cons_lt, cons_rest, map_at, all_kept}
-use Rattle.laws.proofs.Prelude.{filled, filled_more, filled_all, length_filled}
+use Rattle.laws.proofs.Prelude.{filled, filled_more, filled_all}
 use Rattle.laws.proofs.Filtered.{length_filter}
 use Rattle.cover_statements.specs.Carry.{carry_of}
 use Rattle.cover_statements.specs.Entry.{put_entry}
@@ -62,9 +62,6 @@ module _ (table : List Layer) (whole : List Carry) (oldIds : List ℕ) (oldCover
     pub ids_are : new_ids ≡ filled oldIds (ids_in queue) m
     pub covers_are : new_covers ≡ filled oldCovers (covers_in queue) (m * 16)
 
-  pub hand_start : Handing oldIds oldCovers 0 0
-  hand_start = record { within = omega arith; few = omega arith; inside = omega arith; left = refl; ids_are = refl; covers_are = refl }
-
   module _ (wide : are_wide whole ≡ true) (room : EntryRoom (length whole) oldIds oldCovers) where
     queue_wide : are_wide queue ≡ true
     queue_wide = all_kept (is_carried table) is_wide whole wide
@@ -77,17 +74,6 @@ module _ (table : List Layer) (whole : List Carry) (oldIds : List ℕ) (oldCover
 
     many_covers : length (covers_in queue) ≡ length queue * 16
     many_covers = length_covers queue queue_wide
-
-    pub record Lengths (new_ids : List ℕ) (new_covers : List ℤ) : Type 0 where
-      pub ids_same : length new_ids ≡ length oldIds
-      pub covers_same : length new_covers ≡ length oldCovers
-
-    pub hand_lengths : {new_ids : List ℕ} {new_covers : List ℤ} {m i : ℕ} → Handing new_ids new_covers m i → Lengths new_ids new_covers
-    hand_lengths {m = m} s =
-        record {
-          ids_same = ap length s.ids_are ∙ length_filled oldIds (ids_in queue) m (omega (arith, room.ids_long, s.inside, shorter)) (omega (arith, many_ids, s.inside));
-          covers_same = ap length s.covers_are ∙ length_filled oldCovers (covers_in queue) (m * 16) (omega (arith, room.covers_long, s.inside, shorter)) (omega (arith, many_covers, s.inside));
-        }
 
     pub hand_next : {new_ids : List ℕ} {new_covers : List ℤ} {m i : ℕ} → Handing new_ids new_covers m i → {c : Carry} {rest : List Carry} → drop i whole ≡ c ∷ rest → (keep : Bool) (m' : ℕ) (nextIds : List ℕ) (nextCovers : List ℤ) → is_carried table c ≡ keep → Puts m c.id c.cover keep new_ids new_covers m' nextIds nextCovers → Handing nextIds nextCovers m' (i + 1)
     hand_next {new_ids} {new_covers} {m} {i} s {c} {rest} e true m' nextIds nextCovers ek put =

@@ -8,7 +8,6 @@ ghost use Rattle.queue_statements.specs.Queue.{queue_of};
 ghost use Rattle.layer_carrying.specs.Carrying.{rule_in, is_carried, Hands, Puts, EntryRoom};
 
 use cover::{Cover, entry};
-use layer_table::Found;
 use styling::FillRule;
 
 // The fill rule of a layer.
@@ -17,12 +16,12 @@ pub fn rule_of(layers: &[u32], colors: &[f32], count: usize, hint: usize, id: u3
     ensures { result ≡ rule_in (table_of layers.now colors.now count) id }
 {
     match layer_table::find_from(layers, count, hint, id) {
-        Found::At(p) => {
+        Some(p) => {
             let layer = layer_table::layer_at(layers, colors, p);
             let props = layer.props;
             props.fill_rule
         }
-        Found::Absent => FillRule::NonZero,
+        None => FillRule::NonZero,
     }
 }
 
@@ -66,13 +65,11 @@ pub fn hand_on(
         next_ids.new next_covers.new }
 {
     let mut m: usize = 0;
-    let mut i: usize = 0;
-    while i < n {
+    for i in 0..n {
         let id = ids[i];
         let sum = entry::read_cover(sums, i);
         let keep = !sum.is_empty(rule_of(layers, colors, count, i, id));
         m = put_carry(next_ids, next_covers, m, id, sum, keep);
-        i += 1;
     }
     m
 }

@@ -1,8 +1,8 @@
 -- The loop that marks the changed layers of a list, in the places from 256 on; and the whole list, written and then marked. Assumes nothing.
 use Rattle.std.specs.Prelude.{◌≡◌, ◌++◌, ◌+◌, ◌≤◌, ◌<◌}
 use Rattle.laws.proofs.Prelude.{sym, ap, ◌∙◌, Bool, true, false, not, List, ℕ, arith, ℤ, length, get_or, set, take, drop}
-use Rattle.laws.proofs.Prelude.{length-append, length-drop, length-map, take-append-drop, List·getD-append, List·getD-map, length-take-le, given}
-use Rattle.laws.proofs.Prelude.{refused, over, length_tabulate, get_d_tabulate, is_tabulate, filled, length_filled, filled_more, filled_all}
+use Rattle.laws.proofs.Prelude.{length-drop, length-map, take-append-drop, List·getD-append, List·getD-map, length-take-le, given}
+use Rattle.laws.proofs.Prelude.{refused, over, length_tabulate, get_d_tabulate, is_tabulate, filled, filled_more, filled_all}
 use Rattle.layer_table.specs.Lookup.{lookup}
 use Rattle.styling.specs.declared.Layer.{Layer}
 use Rattle.queue_statements.specs.Queue.{Carry, ids_in}
@@ -36,12 +36,6 @@ module _ (table : List Layer) (n : ℕ) (ids : List ℕ) (old : List Bool) where
   module _ (room : 256 + n ≤ length old) where
     front : length (take 256 old) ≡ 256
     front = length-take-le 256 old (omega arith)
-
-    pub mark_long : {flags : List Bool} {i : ℕ} → Marking flags i → length flags ≡ length old
-    mark_long {flags} {i} m =
-        ap length m.same
-        ∙ length-append (take 256 old) (filled (drop 256 old) (marks_for table n ids) i)
-        ∙ omega (arith, front, length_filled (drop 256 old) (marks_for table n ids) i (omega (arith, m.reached, length-drop 256 old)) (omega (arith, m.reached, many)), length-drop 256 old)
 
     pub mark_next : {flags : List Bool} {i : ℕ} {b : Bool} → Marking flags i → i < n → b ≡ is_changed table (get_or ids i 0) → Marking (set flags (256 + i) b) (i + 1)
     unfolding marks_for

@@ -17,7 +17,7 @@ use Rattle.tile_layers.specs.Listing.{Listed, layers_in, are_known, are_light}
 use Rattle.tile_layers.specs.InnerWalk.{Stepped, Moved}
 use Rattle.tile_layers.specs.declared.walk.Next.{Next}
 use Rattle.tile_layers.proofs.Filling.{put_filled}
-use Rattle.tile_layers.proofs.Walking.{Walking, walk_start, walk_here, walk_next_lem, walk_end, walk_all}
+use Rattle.tile_layers.proofs.Walking.{Walking, walk_here, walk_next_lem, walk_end, walk_all}
 use Rattle.layer_carrying.specs.Carrying.{carry_for}
 use Rattle.layer_carrying.proofs.Handing.{carries_wide}
 use Rattle.layer_listing.specs.Survey.{Surveyed}
@@ -45,9 +45,6 @@ module _ (n : ℕ) (ids : List ℕ) (covers : List ℤ) (part : List ℕ) (table
     pub known_is : (known && are_known table (drop total whole)) ≡ are_known table whole
     pub light_is : (light && are_light (drop total whole)) ≡ are_light whole
     pub sums_are : length whole ≤ 256 → light ≡ true → sums ≡ filled old (covers_in (map carry_for whole)) (total * 16)
-
-  pub survey_start : 4096 ≤ length old → Surveying 0 true true old 0 0
-  survey_start h = record { walking = walk_start n ids covers part; long = h; same = refl; known_is = refl; light_is = refl; sums_are = λ few e. refl }
 
   pub survey_next : {total i j : ℕ} {known light : Bool} {sums : List ℤ} → Surveying total known light sums i j → (r : Next) → Stepped n ids covers part i j r → Moved n part i j r → (is_known : Bool) (cover next : List ℤ) (c : Carried) → is_known ≡ is_given (lookup table r.id) → cover ≡ cond r.carried (cover_entry 16 i covers) zeros → Adding cpu 16 cover (between j r.end part) c → next ≡ cond (ltb total 256) (put_entry 16 total c.cover.covers sums) sums → length next ≡ length sums → Surveying (total + 1) (known && is_known) (light && c.accepted) next r.i r.end
   survey_next {total} {i} {j} {known} {light} {sums} s r p m is_known cover next c ek ec el en es =

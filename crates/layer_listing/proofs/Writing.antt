@@ -1,7 +1,7 @@
 -- The loop that writes a tile's list: its three columns, filled up to the k-th entry. Assumes nothing.
-use Rattle.std.specs.Prelude.{◌≡◌, ◌+◌, ◌*◌, ◌≤◌, ◌<◌}
-use Rattle.laws.proofs.Prelude.{refl, ap, sym, ◌∙◌, Bool, true, false, cond, List, map, ℕ, arith, ltb, ℤ, length, set}
-use Rattle.laws.proofs.Prelude.{length-map, cons_lt, map_at, map_drop, filled, filled_more, filled_all, length_filled}
+use Rattle.std.specs.Prelude.{◌≡◌, ◌+◌, ◌*◌, ◌≤◌}
+use Rattle.laws.proofs.Prelude.{ap, sym, ◌∙◌, Bool, true, false, cond, List, map, ℕ, arith, ltb, ℤ, length, set}
+use Rattle.laws.proofs.Prelude.{length-map, cons_lt, map_at, map_drop, filled, filled_more, filled_all}
 use Rattle.cover_statements.specs.Entry.{cover_entry, put_entry}
 use Rattle.queue_statements.specs.Queue.{Carry, queue_of, ids_in, covers_in, zeros}
 use Rattle.queue_statements.proofs.Columns.{are_wide, length_covers}
@@ -9,7 +9,7 @@ use Rattle.tile_layers.specs.Groups.{groups_of}
 use Rattle.tile_layers.specs.Listing.{Listed, layers_in, incoming_of, segments_of, has_any, ListRoom}
 use Rattle.tile_layers.specs.InnerWalk.{Stepped, Moved}
 use Rattle.tile_layers.specs.declared.walk.Next.{Next}
-use Rattle.tile_layers.proofs.Walking.{Walking, walk_start, walk_here, walk_next_lem, walk_all}
+use Rattle.tile_layers.proofs.Walking.{Walking, walk_here, walk_next_lem, walk_all}
 use Rattle.tile_layers.proofs.Wide.{queue_wide, list_wide}
 use Rattle.tile_layers.proofs.Filling.{put_filled, has_between}
 use Rattle.layer_listing.specs.InnerWriting.{Writes}
@@ -28,9 +28,6 @@ module _ (n : ℕ) (ids : List ℕ) (covers : List ℤ) (part : List ℕ) (oldId
     pub covers_are : new_covers ≡ filled oldCovers (covers_in (incoming_of whole)) (k * 16)
     pub flags_are : newFlags ≡ filled oldFlags (segments_of whole) k
 
-  pub write_start : Writing oldIds oldCovers oldFlags 0 0 0
-  write_start = record { walking = walk_start n ids covers part; ids_are = refl; covers_are = refl; flags_are = refl }
-
   module _ (room : ListRoom whole oldIds oldCovers oldFlags) (long : 16 * n ≤ length covers) where
     wide : are_wide (incoming_of whole) ≡ true
     wide = list_wide (queue_of n ids covers) (groups_of part) (queue_wide n ids covers long)
@@ -43,25 +40,6 @@ module _ (n : ℕ) (ids : List ℕ) (covers : List ℤ) (part : List ℕ) (oldId
 
     many_segments : length (segments_of whole) ≡ length whole
     many_segments = length-map whole _
-
-    -- the lent columns keep their lengths
-    pub record Lengths (new_ids : List ℕ) (new_covers : List ℤ) (newFlags : List Bool) : Type 0 where
-      pub ids_same : length new_ids ≡ length oldIds
-      pub covers_same : length new_covers ≡ length oldCovers
-      pub flags_same : length newFlags ≡ length oldFlags
-
-    pub write_lengths : {new_ids : List ℕ} {new_covers : List ℤ} {newFlags : List Bool} {k i j : ℕ} → Writing new_ids new_covers newFlags k i j → Lengths new_ids new_covers newFlags
-    write_lengths {k = k} s =
-        let inside = s.walking.inside in
-        record {
-          ids_same = ap length s.ids_are ∙ length_filled oldIds (ids_in (incoming_of whole)) k (omega (arith, room.ids_long)) (omega (arith, many_ids));
-          covers_same = ap length s.covers_are ∙ length_filled oldCovers (covers_in (incoming_of whole)) (k * 16) (omega (arith, room.covers_long)) (omega (arith, many_covers));
-          flags_same = ap length s.flags_are ∙ length_filled oldFlags (segments_of whole) k (omega (arith, room.flags_long)) (omega (arith, many_segments));
-        }
-
-    -- there is room for the next entry
-    pub write_room : {new_ids : List ℕ} {new_covers : List ℤ} {newFlags : List Bool} {k i j : ℕ} → Writing new_ids new_covers newFlags k i j → (r : Next) → Stepped n ids covers part i j r → k < length whole
-    write_room {k = k} s r p = cons_lt whole k (walk_here n ids covers part s.walking r p)
 
     pub write_next : {new_ids : List ℕ} {new_covers : List ℤ} {newFlags : List Bool} {k i j : ℕ} → Writing new_ids new_covers newFlags k i j → (r : Next) → Stepped n ids covers part i j r → Moved n part i j r → (cover nextCovers : List ℤ) → cover ≡ cond r.carried (cover_entry 16 i covers) zeros → nextCovers ≡ put_entry 16 k cover new_covers → Writing (set new_ids k r.id) nextCovers (set newFlags k (ltb j r.end)) (k + 1) r.i r.end
     write_next {new_ids} {new_covers} {newFlags} {k} {i} {j} s r p m cover nextCovers ec ep =

@@ -15,7 +15,6 @@ ghost use Rattle.layer_listing.specs.Survey.{Surveyed};
 ghost use Rattle.layer_listing.specs.InnerWriting.{Writes};
 
 use cover::{Cover, carry, entry};
-use layer_table::Found;
 use tile_layers::walk;
 
 // How many layers a tile has, and whether each is in the table and none's covers grow too large.
@@ -30,10 +29,7 @@ fn is_known(layers: &[u32], colors: &[f32], count: usize, hint: usize, id: u32) 
     requires { Table layers.now colors.now count }
     ensures { result ≡ is_given (lookup (table_of layers.now colors.now count) id) }
 {
-    match layer_table::find_from(layers, count, hint, id) {
-        Found::At(_) => true,
-        Found::Absent => false,
-    }
+    layer_table::find_from(layers, count, hint, id).is_some()
 }
 
 // A carry kept at a place of a column that has 256.
@@ -72,10 +68,10 @@ pub fn survey_layers(
         let next = walk::next_layer(ids, n, part, i, j);
         let end = next.end;
         let cover = walk::incoming_cover(covers, next.carried, i);
-        known = known & is_known(layers, colors, count, total, next.id);
+        known &= is_known(layers, colors, count, total, next.id);
         let carried = carry::carry(&part[j..end], cover);
         let sum = carried.cover;
-        light = light & carried.accepted;
+        light &= carried.accepted;
         keep_carry(sums, total, sum);
         i = next.i;
         j = end;

@@ -4,18 +4,16 @@ ghost use Rattle.layer_table.specs.Table.{Table, table_of};
 ghost use Rattle.tile_layers.specs.Listing.{is_changed, over_from};
 ghost use Rattle.layer_listing.specs.InnerWriting.{marks_for};
 
-use layer_table::Found;
-
 fn is_changed(layers: &[u32], colors: &[f32], count: usize, hint: usize, id: u32) -> bool
     requires { Table layers.now colors.now count }
     ensures { result ≡ is_changed (table_of layers.now colors.now count) id }
 {
     match layer_table::find_from(layers, count, hint, id) {
-        Found::At(p) => {
+        Some(p) => {
             let layer = layer_table::layer_at(layers, colors, p);
             !layer.is_unchanged
         }
-        Found::Absent => true,
+        None => true,
     }
 }
 
@@ -32,9 +30,7 @@ pub fn mark_changed(
     ensures { flags.new ≡ over_from 256 (marks_for
         (table_of layers.now colors.now count) n ids.now) flags.old }
 {
-    let mut i: usize = 0;
-    while i < n {
+    for i in 0..n {
         flags[256 + i] = is_changed(layers, colors, count, i, ids[i]);
-        i += 1;
     }
 }

@@ -1,11 +1,11 @@
 -- A range as its loop goes: what is left to do on what is left is the whole. Assumes nothing.
-use Rattle.std.specs.Prelude.{◌≡◌, ◌||◌, ◌+◌, ◌-◌, ◌*◌, ◌/◌, ◌≤◌, ◌<◌}
+use Rattle.refusals.specs.declared.Refusal.{Refusal}
+use Rattle.std.specs.Prelude.{◌≡◌, ◌||◌, ◌+◌, ◌-◌, ◌*◌, ◌/◌, ◌≤◌, ◌<◌, Result}
 use Rattle.laws.proofs.Prelude.{refl, sym, ap, subst, ◌∙◌, Bool, true, false, not, List, ℕ, suc}
-use Rattle.laws.proofs.Prelude.{add-one, arith, le-ltb, lt-leb, leb-false, ltb-false, eq-eqb, ne_eqb, not-false, ltb, leb, Float, ℤ, pos, length}
+use Rattle.laws.proofs.Prelude.{add-one, arith, le-ltb, lt-leb, leb-false, ltb-false, eq-eqb, ne_eqb, ltb, leb, Float, ℤ, pos, length}
 use Rattle.laws.proofs.Prelude.{sets, length-sets, over}
 use Rattle.refusals.specs.Refusal.{Judgement, pass, refuse, unless, judgement_in}
-use Rattle.refusals.specs.declared.Verdict.{Verdict}
-use Rattle.refusals.proofs.Judging.{passed, or_left, or_right}
+use Rattle.refusals.proofs.Judging.{or_left, or_right}
 use Rattle.pixel_segment.specs.Field.{gpu}
 use Rattle.cover_statements.specs.Carry.{is_light}
 use Rattle.cover_statements.specs.Cover.{cover_at}
@@ -14,7 +14,7 @@ use Rattle.layer_row_gpu.specs.LayerState.{LayerState, layer_state_in, past_tile
 use Rattle.layer_row_gpu.specs.WorkLayer.{work_layer_verdict, LayerChoice, layer_choice, LayerGiven, worked_by}
 use Rattle.layer_row_gpu.specs.WorkTiles.{plane_at, TilesEnd, asked, tiles_end_in, NextTile, next_tile, TilesGiven, tiles_by, own_call, tiles_from, tiles_choice, tiles_given_by, work_tiles_of, WorksTiles}
 use Rattle.layer_row_gpu.specs.InnerWorks.{due_tile}
-use Rattle.layer_row_gpu.specs.InnerTiles.{Ready, ReadyTile, next_judged}
+use Rattle.layer_row_gpu.specs.InnerTiles.{Ready, next_judged}
 use Rattle.layer_row_gpu.specs.declared.LayerRow.{LayerRow}
 use Rattle.layer_row_gpu.specs.declared.tiles.Ended.{Ended}
 use Rattle.layer_row_gpu.specs.declared.tiles.WorkedTiles.{WorkedTiles}
@@ -77,12 +77,8 @@ module _ {s : LayerState} {row : List ℕ} (r : Ready s row) where
       left : s.next < s.to
       left = leb-false s.to s.next facts.0
 
-      pub goes_room : k * 64 + 64 ≤ length planes
+      goes_room : k * 64 + 64 ≤ length planes
       goes_room = room_for k planes facts.1
-
-      pub ready_tile : ReadyTile s row
-      ready_tile =
-          record { ready = r; left = left; light = not-false (is_light gpu 4 s.covers (due_tile s row)) (passed (not (is_light gpu 4 s.covers (due_tile s row))) 9 pass facts.2).0 }
 
       pub past_ready : Ready (past_tile s (due_tile s row)) row
       past_ready =
@@ -101,11 +97,6 @@ pub record Going (row : List ℕ) (tiles k : ℕ) (s₀ s : LayerState) (planes�
   pub long : length planes ≡ length planes₀
   pub within : k ≤ tiles
   pub left_is : tiles_from row tiles 0 s₀ planes₀ ≡ tiles_from row (tiles - k) k s planes
-
-pub start : (row : List ℕ) (tiles : ℕ) (s : LayerState) (planes : List Float) → Ready s row → Going row tiles 0 s s planes planes
-start row tiles s planes r =
-    let n : tiles ≡ tiles - 0 = omega arith in
-    record { ready = r; long = refl; within = omega arith; left_is = ap (λ (m : ℕ). tiles_from row m 0 s planes) n }
 
 module _ {row : List ℕ} {tiles k : ℕ} {s₀ s : LayerState} {planes₀ planes : List Float} (g : Going row tiles k s₀ s planes₀ planes) where
   abbrev ended : TilesEnd → TilesGiven
@@ -140,9 +131,6 @@ module _ {row : List ℕ} {tiles k : ℕ} {s₀ s : LayerState} {planes₀ plane
     module _ (w : next_judged s row (leb (length planes₀ / 64) k) ≡ NextTile.works) where
       works : next_judged s row (leb (length planes / 64) k) ≡ NextTile.works
       works = sym judged_at ∙ w
-
-      pub tile_ready : ReadyTile s row × (k * 64 + 64 ≤ length planes)
-      tile_ready = (ready_tile g.ready k planes works, goes_room g.ready k planes works)
 
       pub next : {t : LayerState} {planes' : List Float} → t ≡ past_tile s (due_tile s row) → planes' ≡ sets planes (k * 64) (next_plane s row k planes)
           → Going row tiles (k + 1) s₀ t planes₀ planes'
@@ -183,7 +171,7 @@ ready s tile row plane e =
     }
 
 -- what the code's answer tells
-pub told_so : {g : TilesGiven} {r : WorkedTiles} {v : Verdict} {k : ℕ} {x : Ended} {s : LayerRow} {planes : List Float}
+pub told_so : {g : TilesGiven} {r : WorkedTiles} {v : Result Unit Refusal} {k : ℕ} {x : Ended} {s : LayerRow} {planes : List Float}
     → g ≡ record { answer = judgement_in v; worked = k; ended = tiles_end_in x; state = layer_state_in s; planes = planes }
     → r ≡ record { answer = v; worked = k; ended = x; state = s } → WorksTiles g r planes
 told_so e f =

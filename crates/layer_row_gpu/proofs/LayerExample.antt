@@ -1,10 +1,9 @@
 -- The run of specs/LayerExample. Assumes nothing.
-use Rattle.std.specs.Prelude.{◌≡◌, ◌∷◌, ◌+◌}
+use Rattle.std.specs.Prelude.{◌≡◌, ◌∷◌, ◌+◌, Ok, Err}
 use Rattle.laws.proofs.Prelude.{refl, sym, ap, subst, ◌∙◌, List, [], ℕ, lit≤, ℤ, pos, replicate}
 use Rattle.refusals.specs.Refusal.{Judgement, pass, refuse, number_of}
 use Rattle.refusals.specs.declared.Refusal.{Refusal}
 use Rattle.refusals.specs.declared.Refusal.TheVariants.{Room, Tile, Row, Covers}
-use Rattle.refusals.specs.declared.Verdict.TheVariants.{Pass, Refuse}
 use Rattle.pixel_segment.specs.Field.{cover_of}
 use Rattle.segment_rows.specs.Rows.{ascends_from}
 use Rattle.styling.specs.declared.FillRule.TheVariants.{EvenOdd}
@@ -29,10 +28,10 @@ abbrev verdict_at : LayerRow → LayerChoice → Judgement
 verdict_at s choice = work_layer_verdict (layer_state_in s) choice.tile choice.row choice.plane
 
 abbrev turned_down : LayerRow → LayerChoice → Refusal → WorkEvent
-turned_down s choice r = record { choice = choice; result = record { answer = Refuse r; state = s }; back = choice.plane }
+turned_down s choice r = record { choice = choice; result = record { answer = Err r; state = s }; back = choice.plane }
 
 abbrev worked : LayerRow → LayerRow → LayerChoice → WorkEvent
-worked s next choice = record { choice = choice; result = record { answer = Pass; state = next }; back = (worked_by pass (layer_state_in s) choice).plane }
+worked s next choice = record { choice = choice; result = record { answer = Ok tt; state = next }; back = (worked_by pass (layer_state_in s) choice).plane }
 
 went_down : (s : LayerRow) (choice : LayerChoice) (r : Refusal) → verdict_at s choice ≡ refuse (number_of r) → Went (layer_state_in s) (turned_down s choice r)
 went_down s choice r e =
@@ -43,7 +42,7 @@ went_on s next choice e is =
     subst (λ (j : Judgement). RightLayer (worked_by j (layer_state_in s) choice) (worked s next choice)) (sym e) (record { answer = refl; state_is = is; plane_is = refl })
 
 abbrev range_down : LayerRow → TilesChoice → Refusal → RangeEvent
-range_down s choice r = record { choice = choice; result = record { answer = Refuse r; worked = 0; ended = Refused r; state = s }; back = choice.planes }
+range_down s choice r = record { choice = choice; result = record { answer = Err r; worked = 0; ended = Refused r; state = s }; back = choice.planes }
 
 range_down_lem : (s : LayerRow) (choice : TilesChoice) (r : Refusal) → tiles_verdict (layer_state_in s) choice ≡ refuse (number_of r) → RangeWent (layer_state_in s) (range_down s choice r)
 range_down_lem s choice r e =
@@ -71,7 +70,7 @@ unfolding open_layer_verdict ascends_from is_light cover_of no_cover
 passes = refl
 
 abbrev opened : OpenedLayer
-opened = record { answer = Pass; state = before }
+opened = record { answer = Ok tt; state = before }
 
 first_is : layer_state_in before ≡ opened_state pass call_of_one
 unfolding carry_of cover_of no_cover
@@ -136,7 +135,7 @@ abbrev ranged : RangeEvent
 ranged =
     record {
       choice = tile_one;
-      result = record { answer = Pass; worked = 1; ended = Refused Covers; state = last };
+      result = record { answer = Ok tt; worked = 1; ended = Refused Covers; state = last };
       back = (tiles_out pass call_of_one 1 tile_one).planes;
     }
 

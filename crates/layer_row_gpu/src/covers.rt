@@ -26,13 +26,10 @@ fn loads(part: &[u64], layer_id: u32) -> [u16; 4]
     ensures { result ≡ loads_of gpu 4 (replicate 4 0) (layer_within layer_id part.now) }
 {
     let mut loads = [0u16; 4];
-    let mut i = 0;
-    while i < part.len() {
-        let segment = GpuSegment(part[i]);
+    for word in part {
+        let segment = GpuSegment(*word);
         let y = segment.local_y() as usize;
-        let load = carry::raised(loads[y], cover_within(segment, layer_id));
-        loads[y] = load;
-        i += 1;
+        loads[y] = carry::raised(loads[y], cover_within(segment, layer_id));
     }
     loads
 }
@@ -50,12 +47,10 @@ pub fn sum(part: &[u64], layer_id: u32) -> GpuCover
     ensures { result.covers ≡ carry_of gpu 4 (no_cover 4) (layer_within layer_id part.now) }
 {
     let mut covers = [0i8; 4];
-    let mut i = 0;
-    while i < part.len() {
-        let segment = GpuSegment(part[i]);
+    for word in part {
+        let segment = GpuSegment(*word);
         let y = segment.local_y() as usize;
-        covers[y] = covers[y] + cover_within(segment, layer_id);
-        i += 1;
+        covers[y] += cover_within(segment, layer_id);
     }
     GpuCover { covers }
 }

@@ -10,10 +10,11 @@ ghost use Rattle.layer_row_gpu.specs.WorkLayer.{work_layer_verdict};
 use crate::{LayerRow, covers};
 use cover_gpu::carry;
 use pixel_segment_gpu::{order, parts};
-use refusals::{Refusal, Verdict};
+use refusals::Refusal;
 use segment_rows::search;
 
 // Refusal 2 of an opening: the row's number or its tiles out of range.
+// Beside `row_opening`'s: one of both would take the last row's number too, and a definition below; no plainer.
 fn has_bad_span(tile_y: i32, from: i32, to: i32) -> bool
     ensures { result ≡ has_bad_span tile_y from to }
 {
@@ -35,25 +36,26 @@ pub fn judge_opening(
     layer_id: u32,
     rule: u32,
     row: &[u64],
-) -> Verdict
+) -> Result<(), Refusal>
     ensures { judgement_in result ≡ open_layer_verdict tile_y from to layer_id rule row.now }
 {
     if has_bad_span(tile_y, from, to) {
-        return Verdict::Refuse(Refusal::Tile);
+        return Err(Refusal::Tile);
     }
     if !order::is_row(row, search::natural(tile_y) as u64 + 1) {
-        return Verdict::Refuse(Refusal::Row);
+        return Err(Refusal::Row);
     }
     if is_bad_record(layer_id, rule) {
-        return Verdict::Refuse(Refusal::Table);
+        return Err(Refusal::Table);
     }
     if !covers::is_light(parts::left_of_tile(row, from as i16), layer_id) {
-        return Verdict::Refuse(Refusal::Covers);
+        return Err(Refusal::Covers);
     }
-    Verdict::Pass
+    Ok(())
 }
 
 // Whether no opening and no works lead to the state.
+// Beside `row_state`'s: the two states are two types, and one of both would take four numbers and the last row's.
 fn is_astray(state: LayerRow) -> bool
     ensures { result ≡ is_astray (layer_state_in state) }
 {
@@ -76,23 +78,23 @@ pub fn layer_part(row: &[u64], tile: u32, layer_id: u32) -> &[u64]
 }
 
 // Refusals 1, 2, 3 and 9 of a work.
-pub fn judge_work(state: LayerRow, tile: i32, row: &[u64], plane: &[f32]) -> Verdict
+pub fn judge_work(state: LayerRow, tile: i32, row: &[u64], plane: &[f32]) -> Result<(), Refusal>
     ensures { judgement_in result
         ≡ work_layer_verdict (layer_state_in state) tile row.now plane.now }
 {
     if plane.len() < 64 {
-        return Verdict::Refuse(Refusal::Room);
+        return Err(Refusal::Room);
     }
     if is_astray(state) | is_other_tile(state, tile) {
-        return Verdict::Refuse(Refusal::Tile);
+        return Err(Refusal::Tile);
     }
     if !order::is_row(row, state.tile_y as u64 + 1) {
-        return Verdict::Refuse(Refusal::Row);
+        return Err(Refusal::Row);
     }
     let part = layer_part(row, state.next, state.layer_id);
     let cover = state.cover;
     if !carry::is_light(part, cover) {
-        return Verdict::Refuse(Refusal::Covers);
+        return Err(Refusal::Covers);
     }
-    Verdict::Pass
+    Ok(())
 }

@@ -19,7 +19,7 @@ ghost use Rattle.layer_row_gpu.specs.InnerWorks.{Openable, WorkableLayer, due_ti
 
 use cover_gpu::{GpuCover, carry, painting};
 use pixel_segment_gpu::parts;
-use refusals::Verdict;
+use refusals::Refusal;
 use segment_rows::search;
 use styling::{FillRule, codes};
 
@@ -39,14 +39,14 @@ pub struct LayerRow {
 // the array of a cover. A refused opening's state has no tiles.
 #[derive(Clone, Copy)]
 pub struct OpenedLayer {
-    pub answer: Verdict,
+    pub answer: Result<(), Refusal>,
     pub state: LayerRow,
 }
 
 // What a work answers, and the state after it.
 #[derive(Clone, Copy)]
 pub struct WorkedLayer {
-    pub answer: Verdict,
+    pub answer: Result<(), Refusal>,
     pub state: LayerRow,
 }
 
@@ -97,18 +97,18 @@ pub fn open_layer_row(
     ensures { OpensLayer (layer_call tile_y from to layer_id rule row.now) result }
 {
     match judging::judge_opening(tile_y, from, to, layer_id, rule, row) {
-        Verdict::Refuse(refusal) => {
+        Err(refusal) => {
             let state = closed(layer_id, rule);
             OpenedLayer {
-                answer: Verdict::Refuse(refusal),
-                state: state,
+                answer: Err(refusal),
+                state,
             }
         }
-        Verdict::Pass => {
+        Ok(()) => {
             let state = open(tile_y, from, to, layer_id, rule, row);
             OpenedLayer {
-                answer: Verdict::Pass,
-                state: state,
+                answer: Ok(()),
+                state,
             }
         }
     }
@@ -164,14 +164,14 @@ pub fn work_tile(state: LayerRow, tile: i32, row: &[u64], plane: &mut [f32]) -> 
         result plane.new }
 {
     match judging::judge_work(state, tile, row, plane) {
-        Verdict::Refuse(refusal) => WorkedLayer {
-            answer: Verdict::Refuse(refusal),
-            state: state,
+        Err(refusal) => WorkedLayer {
+            answer: Err(refusal),
+            state,
         },
-        Verdict::Pass => {
+        Ok(()) => {
             let next = work(state, row, plane);
             WorkedLayer {
-                answer: Verdict::Pass,
+                answer: Ok(()),
                 state: next,
             }
         }

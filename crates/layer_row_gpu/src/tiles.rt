@@ -1,9 +1,8 @@
 // A range of tiles of one layer's row in one call: judged once, then worked tile after tile, each into the next of the
 // lent planes.
-ghost use Rattle.std.specs.Prelude.{◌≡◌, suc, ◌*◌, ◌+◌, ◌≤◌, ◌<◌, leb, length};
+ghost use Rattle.std.specs.Prelude.{◌≡◌, suc, ◌*◌, ◌+◌, ◌≤◌, ◌<◌, leb, length, Ok};
 ghost use Rattle.std.proofs.lemmas.List.Edits.{sets};
 ghost use Rattle.laws.specs.Lists.{over};
-ghost use Rattle.refusals.specs.declared.Verdict.TheVariants.{Pass};
 ghost use Rattle.pixel_segment.specs.Field.{gpu};
 ghost use Rattle.cover_statements.specs.Cover.{cover_at};
 ghost use Rattle.cover_statements.specs.Plane.{plane_of};
@@ -14,7 +13,7 @@ ghost use Rattle.layer_row_gpu.specs.InnerWorks.{due_tile};
 
 use crate::{LayerRow, judging, work};
 use cover_gpu::carry;
-use refusals::{Refusal, Verdict};
+use refusals::Refusal;
 
 // Why a range ended: all tiles that were asked for are worked, the row has no further tile, no plane is left, or the
 // next tile's own call would be refused.
@@ -29,36 +28,30 @@ pub enum Ended {
 // What a range answers, how many tiles it worked and why it ended, and the state after it.
 #[derive(Clone, Copy)]
 pub struct WorkedTiles {
-    pub answer: Verdict,
+    pub answer: Result<(), Refusal>,
     pub worked: usize,
     pub ended: Ended,
     pub state: LayerRow,
 }
 
-// Whether the next tile is worked.
-#[derive(Clone, Copy)]
-pub enum Next {
-    Work,
-    End(Ended),
-}
-
-// Judges the next tile, where neither 2 nor 3 refuses a tile of the row: its end, no plane, or number 9.
-fn judge_next(state: LayerRow, row: &[u64], is_full: bool) -> Next
+// Why the range ends before the next tile, where neither 2 nor 3 refuses a tile of the row: its end, no plane, or
+// number 9. None where the tile is worked.
+fn judge_next(state: LayerRow, row: &[u64], is_full: bool) -> Option<Ended>
     requires { Ready (layer_state_in state) row.now }
     ensures { next_in result ≡ next_judged (layer_state_in state) row.now is_full }
 {
     if state.to <= state.next {
-        return Next::End(Ended::RowEnd);
+        return Some(Ended::RowEnd);
     }
     if is_full {
-        return Next::End(Ended::NoRoom);
+        return Some(Ended::NoRoom);
     }
     let part = judging::layer_part(row, state.next, state.layer_id);
     let cover = state.cover;
     if !carry::is_light(part, cover) {
-        return Next::End(Ended::Refused(Refusal::Covers));
+        return Some(Ended::Refused(Refusal::Covers));
     }
-    Next::Work
+    None
 }
 
 // Works the next tile into the k-th plane.
@@ -75,13 +68,13 @@ fn work_plane(state: LayerRow, row: &[u64], k: usize, planes: &mut [f32]) -> Lay
 }
 
 fn ended_so(state: LayerRow, worked: usize, ended: Ended) -> WorkedTiles
-    ensures { result ≡ record { answer = Pass; worked = worked; ended = ended; state = state } }
+    ensures { result ≡ record { answer = Ok tt; worked = worked; ended = ended; state = state } }
 {
     WorkedTiles {
-        answer: Verdict::Pass,
-        worked: worked,
-        ended: ended,
-        state: state,
+        answer: Ok(()),
+        worked,
+        ended,
+        state,
     }
 }
 
@@ -93,18 +86,13 @@ fn work_on(first: LayerRow, tiles: usize, row: &[u64], planes: &mut [f32]) -> Wo
 {
     let room = planes.len() / 64;
     let mut state = first;
-    let mut k = 0;
-    while k < tiles {
-        match judge_next(state, row, room <= k) {
-            Next::End(ended) => {
-                return ended_so(state, k, ended);
-            }
-            Next::Work => {}
+    for k in 0..tiles {
+        if let Some(ended) = judge_next(state, row, room <= k) {
+            return ended_so(state, k, ended);
         }
         state = work_plane(state, row, k, planes);
-        k += 1;
     }
-    ended_so(state, k, Ended::Asked)
+    ended_so(state, tiles, Ended::Asked)
 }
 
 // Works up to `tiles` tiles from the tile `tile` on, the coverages of each in the next 64 numbers of the lent planes.
@@ -123,12 +111,12 @@ pub fn work_tiles(
         return ended_so(state, 0, Ended::Asked);
     }
     match judging::judge_work(state, tile, row, planes) {
-        Verdict::Refuse(refusal) => WorkedTiles {
-            answer: Verdict::Refuse(refusal),
+        Err(refusal) => WorkedTiles {
+            answer: Err(refusal),
             worked: 0,
             ended: Ended::Refused(refusal),
-            state: state,
+            state,
         },
-        Verdict::Pass => work_on(state, tiles, row, planes),
+        Ok(()) => work_on(state, tiles, row, planes),
     }
 }

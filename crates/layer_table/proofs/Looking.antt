@@ -1,13 +1,11 @@
 -- What is looked up in a table, by its records: a layer is given where its id stands, and refused only where no record has the id.
 -- `at_place` and `at_none` are for whoever calls `find`; `Walk` is for whoever goes through the table in step with ascending ids.
 -- Assumes nothing.
-use Rattle.std.specs.Prelude.{◌≡◌, ◌∷◌, ◌+◌, ◌≤◌, ◌<◌}
+use Rattle.std.specs.Prelude.{◌≡◌, ◌∷◌, ◌+◌, ◌≤◌, ◌<◌, Option, Some, None}
 use Rattle.laws.proofs.Prelude.{refl, sym, ap, ◌∙◌, true, ⊎_elim, List, [], map, ℕ, zero, suc, not-suc-le-zero}
 use Rattle.laws.proofs.Prelude.{le_of_suc-le-suc, eq-or-lt_of_le, zero-add, arith, eq-eqb, ne_eqb, Float, length, get_or, length-map, refused, given}
 use Rattle.laws.proofs.Prelude.{le_or_lt, eq_or_ne}
 use Rattle.styling.specs.declared.Layer.{Layer}
-use Rattle.layer_table.specs.declared.Found.{Found}
-use Rattle.layer_table.specs.declared.Found.TheVariants.{At, Absent}
 use Rattle.styling.specs.Ascending.{strictly_ascends_from, strictly_ascends}
 use Rattle.layer_table.specs.Table.{id_at, layer_at, table_of, table_ids}
 use Rattle.layer_table.specs.Lookup.{lookup, record_place, found_of, Place, Missing}
@@ -85,7 +83,7 @@ module _ {words : List ℕ} {floats : List Float} {count id : ℕ} where
 
   -- ---- what `find` answers
 
-  pub at_place : {r : Found} {i : ℕ} → r ≡ At i → found_of r ≡ record_place (table_ids words count) id → strictly_ascends (table_ids words count) ≡ true → Place words floats count id i
+  pub at_place : {r : Option ℕ} {i : ℕ} → r ≡ Some i → found_of r ≡ record_place (table_ids words count) id → strictly_ascends (table_ids words count) ≡ true → Place words floats count id i
   at_place {r} {i} e f h = by (sought 0 (table_ids words count) id)
     where
       by : Sought 0 (table_ids words count) id → Place words floats count id i
@@ -95,7 +93,7 @@ module _ {words : List ℕ} {floats : List Float} {count id : ℕ} where
           place h at (sym (get_d_ids words count i at) ∙ rw (← same, zero-add) q)
       by (missed n g) = let clash : ◌≡◌ {A = ℕ} 0 1 = cc in absurd (omega arith)
 
-  pub at_none : {r : Found} → r ≡ Absent → found_of r ≡ record_place (table_ids words count) id → Missing words floats count id
+  pub at_none : {r : Option ℕ} → r ≡ None → found_of r ≡ record_place (table_ids words count) id → Missing words floats count id
   at_none {r} e f = by (sought 0 (table_ids words count) id)
     where
       by : Sought 0 (table_ids words count) id → Missing words floats count id

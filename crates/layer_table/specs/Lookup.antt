@@ -1,10 +1,8 @@
 -- Looking a layer up in a table by its id: the first with that id, or refusal 8, 'a listed or painted layer is not in the table'.
-use Rattle.std.specs.Prelude.{◌≡◌, ◌∷◌, ◌<◌}
+use Rattle.std.specs.Prelude.{◌≡◌, ◌∷◌, ◌<◌, Option, Some, None}
 use Rattle.laws.specs.Prelude.{cond, List, [], ℕ, suc, eqb, Float, Answer, refused, given}
 use Rattle.styling.specs.declared.Layer.{Layer}
 use Rattle.layer_table.specs.Table.{id_at, layer_at, table_of}
-use Rattle.layer_table.specs.declared.Found.{Found}
-use Rattle.layer_table.specs.declared.Found.TheVariants.{At, Absent}
 
 -- the layer with an id
 unfoldable pub lookup : List Layer → ℕ → Answer Layer
@@ -20,9 +18,9 @@ abbrev pub record_place : List ℕ → ℕ → Answer ℕ
 record_place ids id = place_from 0 ids id
 
 -- the cases of the code's answer
-abbrev pub found_of : Found → Answer ℕ
-found_of (At i) = given i
-found_of Absent = refused 8
+abbrev pub found_of : Option ℕ → Answer ℕ
+found_of (Some i) = given i
+found_of None = refused 8
 
 -- a place of the lent table that holds the id; and that none does
 pub record Place (words : List ℕ) (floats : List Float) (count id i : ℕ) : Type 0 where

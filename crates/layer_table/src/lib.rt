@@ -29,13 +29,6 @@ pub struct Words {
     pub unchanged: u32,
 }
 
-// Where a layer stands in the table.
-#[derive(Clone, Copy)]
-pub enum Found {
-    At(usize),
-    Absent,
-}
-
 // The id of a record.
 pub fn id_at(layers: &[u32], i: usize) -> u32
     requires { 8 * i < length layers.now }
@@ -145,24 +138,22 @@ pub fn is_table(layers: &[u32], colors: &[f32], count: usize) -> bool
     }
     let mut ok = true;
     let mut low: u64 = 0;
-    let mut i: usize = 0;
-    while i < count {
+    for i in 0..count {
         let words = words_at(layers, i);
         let id = words.id as u64;
-        ok = ok & (is_in_range(words) & (low <= id));
+        ok &= is_in_range(words) & (low <= id);
         low = id + 1;
-        i += 1;
     }
     ok
 }
 
 // The place of a layer in an ascending table, by halving.
-pub fn find(layers: &[u32], count: usize, id: u32) -> Found
+pub fn find(layers: &[u32], count: usize, id: u32) -> Option<usize>
     requires { (8 * count ≤ length layers.now) × (strictly_ascends (table_ids layers.now count) ≡ true) }
     ensures { found_of result ≡ record_place (table_ids layers.now count) id }
 {
     if count == 0 {
-        return Found::Absent;
+        return None;
     }
     let mut start = 0;
     let mut len = count;
@@ -176,9 +167,9 @@ pub fn find(layers: &[u32], count: usize, id: u32) -> Found
         }
     }
     if id_at(layers, start) == id {
-        Found::At(start)
+        Some(start)
     } else {
-        Found::Absent
+        None
     }
 }
 
@@ -187,11 +178,7 @@ fn is_at(layers: &[u32], count: usize, at: usize, id: u32) -> bool
     requires { 8 * count ≤ length layers.now }
     ensures { result ≡ (ltb at count && eqb (id_at layers.now at) id) }
 {
-    if at < count {
-        id_at(layers, at) == id
-    } else {
-        false
-    }
+    at < count && id_at(layers, at) == id
 }
 
 // Where a layer's record stands if no id between it and that of the record at a place is left out.
@@ -209,21 +196,19 @@ fn guess_from(layers: &[u32], count: usize, at: usize, id: u32) -> usize
 
 // The same place as by `find`, with any hint where it may be: layers are mostly looked up in their order, and ids often
 // follow each other, so the record as many places on as the id is greater is tried first, then the next ones.
-pub fn find_from(layers: &[u32], count: usize, hint: usize, id: u32) -> Found
+pub fn find_from(layers: &[u32], count: usize, hint: usize, id: u32) -> Option<usize>
     requires { (8 * count ≤ length layers.now) × (strictly_ascends (table_ids layers.now count) ≡ true) }
     ensures { found_of result ≡ record_place (table_ids layers.now count) id }
 {
     let guess = guess_from(layers, count, hint, id);
     if is_at(layers, count, guess, id) {
-        return Found::At(guess);
+        return Some(guess);
     }
     if hint < count {
-        let mut k: usize = 0;
-        while k < TRIES {
-            if is_at(layers, count, hint + k, id) {
-                return Found::At(hint + k);
+        for at in hint..hint + TRIES {
+            if is_at(layers, count, at, id) {
+                return Some(at);
             }
-            k += 1;
         }
     }
     find(layers, count, id)

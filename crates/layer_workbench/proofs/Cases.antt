@@ -1,6 +1,6 @@
 -- The carries of a tile do not hang on what the passes make of its layers: over any list, and worked in a tile with a layer that is skipped, one
 -- that is shown, and one that is masked off. Assumes nothing.
-use Rattle.std.specs.Prelude.{◌≡◌, ◌∷◌}
+use Rattle.std.specs.Prelude.{◌≡◌, ◌∷◌, None}
 use Rattle.laws.proofs.Prelude.{refl, Bool, true, false, List, [], ℕ, pos, eq, of_bits, binary32, replicate}
 use Rattle.cover_statements.specs.Carry.{carry_of}
 use Rattle.cover_statements.specs.Cover.{is_empty, is_full}
@@ -19,7 +19,6 @@ use Rattle.pass_statements.specs.Covered.{covered_from}
 use Rattle.pass_statements.specs.Decide.{Outcome, outcome_of}
 use Rattle.cached_tile.specs.Kept.{no_tile}
 use Rattle.layer_workbench.specs.Work.{outcome_by_entries, outcome_in, carries_after}
-use Rattle.layer_workbench.specs.declared.PreviousClear.TheVariants.{Absent}
 
 -- 'A carry is incoming cover plus segment covers, painted or not': whatever the outcome
 pub carries_alike : (table : List Layer) (o o' : Outcome) (ls : List Listed) → carries_after table o ls ≡ carries_after table o' ls
@@ -48,7 +47,7 @@ abbrev pub layers : List Listed
 layers = full 1 ∷ full 2 ∷ full 3 ∷ []
 
 abbrev pub outcome : Outcome
-outcome = outcome_in table no_tile black Absent layers
+outcome = outcome_in table no_tile black None layers
 
 -- layer 1 is passed over as covered
 pub one_skipped : outcome.skipped ≡ 1

@@ -1,7 +1,7 @@
 -- The work on one tile (`drive_tile_painting` without painting): its layers are listed, the passes decide, the cached tile is updated, and the
 -- carries are handed on. Stands for 'One tile' up to painting.
 use Rattle.std.specs.Prelude.{◌≡◌, ◌≤◌}
-use Rattle.laws.specs.Prelude.{Bool, false, List, map, Option, some, none, ℕ, ℤ, length, over}
+use Rattle.laws.specs.Prelude.{Bool, false, List, map, Option, Some, None, ℕ, ℤ, length, over}
 use Rattle.styling.specs.Color.{same_color}
 use Rattle.styling.specs.declared.Color.{Color}
 use Rattle.styling.specs.declared.Layer.{Layer}
@@ -13,12 +13,8 @@ use Rattle.pass_statements.specs.Item.{items_of}
 use Rattle.pass_statements.specs.Decide.{Outcome, outcome_of}
 use Rattle.pass_statements.specs.Decision as decision
 use Rattle.pass_statements.specs.Decision.{TileDecision, solid, paint, decision_in}
-use Rattle.pass_statements.specs.declared.unchanged.PreviousCount.{PreviousCount}
-use Rattle.pass_statements.specs.declared.unchanged.PreviousCount.TheVariants as counts
 use Rattle.cached_tile.specs.Kept.{previous_count, counted, cleared}
 use Rattle.cached_tile.specs.declared.kept.Kept as kept
-use Rattle.layer_workbench.specs.declared.PreviousClear.{PreviousClear}
-use Rattle.layer_workbench.specs.declared.PreviousClear.TheVariants.{Absent, Given}
 use Rattle.layer_workbench.specs.declared.DecidedTile.{DecidedTile}
 use Rattle.layer_workbench.specs.declared.Worked.{Worked}
 
@@ -28,23 +24,18 @@ abbrev pub entry_of : List Layer → Listed → Entry
 entry_of table l = record { id = l.id; cover = l.cover; segments = has_any l.own; changed = is_changed table l.id }
 
 -- the clear colour is unchanged where the one before is given and is the same
-abbrev pub clear_unchanged : PreviousClear → Color → Bool
-clear_unchanged Absent clear = false
-clear_unchanged (Given color) clear = same_color color clear
-
--- the count that a cached tile kept
-abbrev pub count_from : Option ℕ → PreviousCount
-count_from (some n) = counts.Kept n
-count_from none = counts.Absent
+abbrev pub clear_unchanged : Option Color → Color → Bool
+clear_unchanged None clear = false
+clear_unchanged (Some color) clear = same_color color clear
 
 -- ---- what the work gives
 
 -- from the entries of a list, whoever made it
-unfoldable pub outcome_by_entries : List Layer → kept.Kept → Color → PreviousClear → List Entry → Outcome
-outcome_by_entries table k clear previous entries = outcome_of clear (clear_unchanged previous clear) (count_from (previous_count k)) (items_of table entries)
+unfoldable pub outcome_by_entries : List Layer → kept.Kept → Color → Option Color → List Entry → Outcome
+outcome_by_entries table k clear previous entries = outcome_of clear (clear_unchanged previous clear) (previous_count k) (items_of table entries)
 
 -- from the layers of a tile
-abbrev pub outcome_in : List Layer → kept.Kept → Color → PreviousClear → List Listed → Outcome
+abbrev pub outcome_in : List Layer → kept.Kept → Color → Option Color → List Listed → Outcome
 outcome_in table k clear previous ls = outcome_by_entries table k clear previous (map (entry_of table) ls)
 
 -- the cached tile afterwards: any work updates the count, paint clears tag 1, and nothing else changes
@@ -68,7 +59,7 @@ pub record Decides (o : Outcome) (k : kept.Kept) (n : ℕ) (oldUnmasked : List B
   pub unmasked_are : unmasked ≡ over o.unmasked oldUnmasked
 
 -- the answer, and the six lent columns: the list's four and the queue's two
-pub record Works (table : List Layer) (k : kept.Kept) (clear : Color) (previous : PreviousClear) (ls : List Listed) (r : Worked) : Type 0 where
+pub record Works (table : List Layer) (k : kept.Kept) (clear : Color) (previous : Option Color) (ls : List Listed) (r : Worked) : Type 0 where
   pub decision : decision_in r.decision ≡ (outcome_in table k clear previous ls).decision
   pub skipped : r.skipped.0 ≡ (outcome_in table k clear previous ls).skipped
   pub listed : r.listed ≡ length ls

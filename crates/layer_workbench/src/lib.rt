@@ -8,27 +8,17 @@ ghost use Rattle.queue_statements.specs.Queue.{queue_of};
 ghost use Rattle.tile_layers.specs.Listing.{layers_in};
 ghost use Rattle.tile_layers.specs.InnerWalk.{Walks};
 ghost use Rattle.layer_carrying.specs.Carrying.{HoldsCarries};
-ghost use Rattle.cached_tile.specs.Tile.{count_in};
 ghost use Rattle.pass_statements.specs.Entry.{entries_of};
 ghost use Rattle.pass_statements.specs.Decision.{decision_in};
 ghost use Rattle.pass_statements.specs.Item.{EntryColumns};
-ghost use Rattle.layer_workbench.specs.Work.{clear_unchanged, count_from, kept_by, outcome_by_entries, outcome_in};
+ghost use Rattle.layer_workbench.specs.Work.{clear_unchanged, kept_by, outcome_by_entries, outcome_in};
 ghost use Rattle.layer_workbench.specs.Work.{carries_after, Decides, Works, ListWritten, QueueWritten, Rooms};
 
-use cached_tile::LayerCount;
 use cached_tile::kept::Kept;
 use pass_statements::Index;
 use pass_statements::decide::Decision;
-use pass_statements::unchanged::PreviousCount;
 use passes::decide;
 use styling::Color;
-
-// The clear colour of the frame before, where one is given.
-#[derive(Clone, Copy)]
-pub enum PreviousClear {
-    Absent,
-    Given(Color),
-}
 
 // What a tile's work gives: the decision, how many layers are listed and how many of them skipped, the cached tile, and
 // how many carries are handed on.
@@ -49,21 +39,12 @@ pub struct DecidedTile {
     pub kept: Kept,
 }
 
-pub fn is_clear_unchanged(previous: PreviousClear, clear: Color) -> bool
+pub fn is_clear_unchanged(previous: Option<Color>, clear: Color) -> bool
     ensures { result ≡ clear_unchanged previous clear }
 {
     match previous {
-        PreviousClear::Absent => false,
-        PreviousClear::Given(color) => color.eq(clear),
-    }
-}
-
-fn previous_count(count: LayerCount) -> PreviousCount
-    ensures { result ≡ count_from (count_in count) }
-{
-    match count {
-        LayerCount::Count(n) => PreviousCount::Kept(n),
-        LayerCount::Absent => PreviousCount::Absent,
+        None => false,
+        Some(color) => color.eq(clear),
     }
 }
 
@@ -89,7 +70,7 @@ pub fn decide_tile(
     count: usize,
     kept: Kept,
     clear: Color,
-    previous: PreviousClear,
+    previous: Option<Color>,
     unmasked: &mut [bool],
 ) -> DecidedTile
     requires { EntryColumns n ids.now covers.now flags.now × Table layers.now colors.now count
@@ -105,7 +86,7 @@ pub fn decide_tile(
     let decided = decide::decide(
         clear,
         is_clear_unchanged(previous, clear),
-        previous_count(before),
+        before,
         ids,
         covers,
         flags,
@@ -138,7 +119,7 @@ pub fn work(
     count: usize,
     kept: Kept,
     clear: Color,
-    previous: PreviousClear,
+    previous: Option<Color>,
     next_ids: &mut [u32],
     next_covers: &mut [i8],
     list_ids: &mut [u32],

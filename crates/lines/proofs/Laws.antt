@@ -1,7 +1,7 @@
 -- Reading is the inverse of printing: `parse_line`, `parse_lines` and `parse_block` read exactly what `line_text`, `lines_text` and `block_text` print.
 -- Assumes nothing.
 use Rattle.std.specs.Prelude.{◌≡◌, ◌∷◌, ◌++◌, ◌+◌, ◌%◌, ◌≤◌}
-use Rattle.laws.proofs.Prelude.{refl, sym, ap, ap₂, ◌∙◌, true, false, List, [], append_assoc, Option, some, none, ℕ, zero, suc}
+use Rattle.laws.proofs.Prelude.{refl, sym, ap, ap₂, ◌∙◌, true, false, List, [], append_assoc, Option, Some, None, ℕ, zero, suc}
 use Rattle.laws.proofs.Prelude.{arith, eq-eqb, eqb-true, eqb-false, eqb, ℤ, pos, negsuc, length}
 use Rattle.decimal.specs.Decimal.{decimal, decimalℤ, Stops}
 use Rattle.decimal.specs.Parse.{Parsed, parsed, failed, parseℤ}
@@ -20,7 +20,7 @@ stops : (vs : List ℤ) (t : List ℕ) → Stops (field_end vs ∷ t)
 stops [] t = refl
 stops (v ∷ vs) t = refl
 
-pub line_complete : (vs : List ℤ) (t : List ℕ) → AllShort vs → parse_line (length vs) (line_text vs ++ t) ≡ record { numbers = vs; rest = some t }
+pub line_complete : (vs : List ℤ) (t : List ℕ) → AllShort vs → parse_line (length vs) (line_text vs ++ t) ≡ record { numbers = vs; rest = Some t }
 unfolding parse_line line_text
 line_complete [] t h = refl
 line_complete (v ∷ vs) t h =
@@ -30,7 +30,7 @@ line_complete (v ∷ vs) t h =
     (line_next (length vs) (decimalℤ v ++ (field_end vs ∷ (line_text vs ++ t))) v (field_end vs) (line_text vs ++ t) n (ends vs)
     ∙ ap (after v) (line_complete vs t h.1))
 
-pub never : {P : Type 0} {r : (Option (List ℕ))} {t : List ℕ} → r ≡ none → r ≡ some t → P
+pub never : {P : Type 0} {r : (Option (List ℕ))} {t : List ℕ} → r ≡ None → r ≡ Some t → P
 never p q = let z : ◌≡◌ {A = ℕ} 0 1 = cc in absurd (omega arith)
 
 -- what a line that was read says of the text
@@ -53,12 +53,12 @@ line_after k s v b u l t g e i =
       fields = record { count = ap suc i.fields.count; short = (q.below, i.fields.short) };
     }
 
-pub line_sound : (k : ℕ) (s t : List ℕ) → (parse_line k s).rest ≡ some t → LineIs k s (parse_line k s) t
+pub line_sound : (k : ℕ) (s t : List ℕ) → (parse_line k s).rest ≡ Some t → LineIs k s (parse_line k s) t
 unfolding parse_line line_text
 line_sound zero s t h = let e : s ≡ t = cc in record { text = e; fields = record { count = refl; short = tt } }
 line_sound (suc k) s t h = go (parseℤ 10000000 s) refl (λ u. line_sound k u t)
   where
-    go : (g : Parsed ℤ) → parseℤ 10000000 s ≡ g → ((u : List ℕ) → (parse_line k u).rest ≡ some t → LineIs k u (parse_line k u) t) → LineIs (suc k) s (parse_line (suc k) s) t
+    go : (g : Parsed ℤ) → parseℤ 10000000 s ≡ g → ((u : List ℕ) → (parse_line k u).rest ≡ Some t → LineIs k u (parse_line k u) t) → LineIs (suc k) s (parse_line (suc k) s) t
     go failed e ih = never (ap (λ (l : ParsedLine). l.rest) (line_failed k s e)) h
     go (parsed v []) e ih = never (ap (λ (l : ParsedLine). l.rest) (line_end k s v e)) h
     go (parsed v (b ∷ u)) e ih =
@@ -84,12 +84,12 @@ line_starts k [] t h = absurd (omega arith)
 line_starts k (v ∷ vs) t h = rw (append_assoc (decimalℤ v) (field_end vs ∷ line_text vs) t) (digits_starts v ((field_end vs ∷ line_text vs) ++ t))
 
 pub lines_complete : (m k : ℕ) (ls : List (List ℤ)) (t : List ℕ) → length ls ≤ m → AllFields (suc k) ls → starts_number t ≡ false
-    → parse_lines m (suc k) (lines_text ls ++ t) ≡ record { lines = ls; rest = some t }
+    → parse_lines m (suc k) (lines_text ls ++ t) ≡ record { lines = ls; rest = Some t }
 unfolding lines_text
 lines_complete m k [] t h a e = lines_none m (suc k) t e
 lines_complete zero k (r ∷ ls) t h a e = absurd (omega arith)
 lines_complete (suc m) k (r ∷ ls) t h a e =
-    let l : parse_line (suc k) (line_text r ++ (lines_text ls ++ t)) ≡ record { numbers = r; rest = some (lines_text ls ++ t) }
+    let l : parse_line (suc k) (line_text r ++ (lines_text ls ++ t)) ≡ record { numbers = r; rest = Some (lines_text ls ++ t) }
     = ap (λ (n : ℕ). parse_line n (line_text r ++ (lines_text ls ++ t))) (sym a.0.count) ∙ line_complete r (lines_text ls ++ t) a.0.short in
     rw (append_assoc (line_text r) (lines_text ls) t)
     (lines_next m (suc k) (line_text r ++ (lines_text ls ++ t)) (lines_text ls ++ t) (line_starts k r (lines_text ls ++ t) a.0.count) (ap (λ (x : ParsedLine). x.rest) l)
@@ -101,7 +101,7 @@ pub record LinesAre (m k : ℕ) (s : List ℕ) (r : ParsedLines) (t : List ℕ) 
   pub few : length r.lines ≤ m
   pub fields : AllFields k r.lines
 
-no_lines : (m k : ℕ) (s t : List ℕ) → ◌≡◌ {A = (Option (List ℕ))} (some s) (some t) → LinesAre m k s (record { lines = []; rest = some s }) t
+no_lines : (m k : ℕ) (s t : List ℕ) → ◌≡◌ {A = (Option (List ℕ))} (Some s) (Some t) → LinesAre m k s (record { lines = []; rest = Some s }) t
 unfolding lines_text
 no_lines m k s t h = let e : s ≡ t = cc in record { text = e; few = omega arith; fields = tt }
 
@@ -114,7 +114,7 @@ line_before m k s u t l r a b = record {
   fields = (a.fields, b.fields);
 }
 
-lines_on : (m k : ℕ) (s t : List ℕ) → (parse_lines (suc m) k s).rest ≡ some t → ((u : List ℕ) → (parse_lines m k u).rest ≡ some t → LinesAre m k u (parse_lines m k u) t)
+lines_on : (m k : ℕ) (s t : List ℕ) → (parse_lines (suc m) k s).rest ≡ Some t → ((u : List ℕ) → (parse_lines m k u).rest ≡ Some t → LinesAre m k u (parse_lines m k u) t)
     → LinesAre (suc m) k s (parse_lines (suc m) k s) t
 lines_on m k s t h ih =
     cases (starts_number s)
@@ -124,22 +124,22 @@ lines_on m k s t h ih =
     rw same (no_lines (suc m) k s t (sym (ap (λ (r : ParsedLines). r.rest) same) ∙ h)))
   where
     go : starts_number s ≡ true → (r : (Option (List ℕ))) → (parse_line k s).rest ≡ r → LinesAre (suc m) k s (parse_lines (suc m) k s) t
-    go b none e = never (ap (λ (r : ParsedLines). r.rest) (lines_broken m k s b e)) h
-    go b (some u) e =
+    go b None e = never (ap (λ (r : ParsedLines). r.rest) (lines_broken m k s b e)) h
+    go b (Some u) e =
         let same = lines_next m k s u b e in
         rw same (line_before m k s u t (parse_line k s) (parse_lines m k u) (line_sound k s u e) (ih u (sym (ap (λ (r : ParsedLines). r.rest) same) ∙ h)))
 
-pub lines_sound : (m k : ℕ) (s t : List ℕ) → (parse_lines m k s).rest ≡ some t → LinesAre m k s (parse_lines m k s) t
+pub lines_sound : (m k : ℕ) (s t : List ℕ) → (parse_lines m k s).rest ≡ Some t → LinesAre m k s (parse_lines m k s) t
 unfolding parse_lines
 lines_sound zero k s t h = no_lines zero k s t h
 lines_sound (suc m) k s t h = lines_on m k s t h (λ u. lines_sound m k u t)
 
-pub strip_prefix_complete : (prefix t : List ℕ) → strip_prefix prefix (prefix ++ t) ≡ some t
+pub strip_prefix_complete : (prefix t : List ℕ) → strip_prefix prefix (prefix ++ t) ≡ Some t
 unfolding strip_prefix
 strip_prefix_complete [] t = refl
 strip_prefix_complete (a ∷ prefix) t = rw (eq-eqb a a refl) (strip_prefix_complete prefix t)
 
-pub strip_prefix_sound : (prefix s t : List ℕ) → strip_prefix prefix s ≡ some t → s ≡ prefix ++ t
+pub strip_prefix_sound : (prefix s t : List ℕ) → strip_prefix prefix s ≡ Some t → s ≡ prefix ++ t
 unfolding strip_prefix
 strip_prefix_sound [] s t h = cc
 strip_prefix_sound (a ∷ prefix) [] t h = never refl h
@@ -149,7 +149,7 @@ strip_prefix_sound (a ∷ prefix) (b ∷ s) t h =
     (λ e. never refl (rw e at h))
 
 pub block_complete : (prefix : List ℕ) (m k : ℕ) (ls : List (List ℤ)) (t : List ℕ) → length ls ≤ m → AllFields (suc k) ls → starts_number t ≡ false
-    → parse_block prefix m (suc k) (block_text prefix ls ++ t) ≡ record { lines = ls; rest = some t }
+    → parse_block prefix m (suc k) (block_text prefix ls ++ t) ≡ record { lines = ls; rest = Some t }
 unfolding parse_block block_text
 block_complete prefix m k ls t h a e = rw (append_assoc prefix (lines_text ls) t, strip_prefix_complete prefix (lines_text ls ++ t)) (lines_complete m k ls t h a e)
 
@@ -159,13 +159,13 @@ pub record BlockIs (prefix : List ℕ) (m k : ℕ) (s : List ℕ) (r : ParsedLin
   pub few : length r.lines ≤ m
   pub fields : AllFields k r.lines
 
-pub block_sound : (prefix : List ℕ) (m k : ℕ) (s t : List ℕ) → (parse_block prefix m k s).rest ≡ some t → BlockIs prefix m k s (parse_block prefix m k s) t
+pub block_sound : (prefix : List ℕ) (m k : ℕ) (s t : List ℕ) → (parse_block prefix m k s).rest ≡ Some t → BlockIs prefix m k s (parse_block prefix m k s) t
 unfolding parse_block block_text
 block_sound prefix m k s t h = go (strip_prefix prefix s) refl h
   where
-    go : (r : (Option (List ℕ))) → strip_prefix prefix s ≡ r → (after_names m k r).rest ≡ some t → BlockIs prefix m k s (after_names m k r) t
-    go none e g = never refl g
-    go (some u) e g =
+    go : (r : (Option (List ℕ))) → strip_prefix prefix s ≡ r → (after_names m k r).rest ≡ Some t → BlockIs prefix m k s (after_names m k r) t
+    go None e g = never refl g
+    go (Some u) e g =
         let q = lines_sound m k u t g in
         record {
           text = strip_prefix_sound prefix s u e ∙ ap (λ (x : List ℕ). prefix ++ x) q.text ∙ sym (append_assoc prefix (lines_text (parse_lines m k u).lines) t);

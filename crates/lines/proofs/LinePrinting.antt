@@ -1,7 +1,7 @@
 -- What holds while a line is printed: with what is left to print the list, and the place after it, are as the whole line leaves them.
 -- Assumes nothing.
 use Rattle.std.specs.Prelude.{◌≡◌, ◌∷◌, ◌++◌, ◌+◌, ◌-◌, ◌*◌, ◌<◌, ◌≤◌}
-use Rattle.laws.proofs.Prelude.{refl, sym, ap, ◌∙◌, List, ℕ, suc, add-one, arith, ℤ, pos, length, drop, get_or}
+use Rattle.laws.proofs.Prelude.{sym, ap, ◌∙◌, List, ℕ, suc, add-one, arith, ℤ, pos, length, drop, get_or}
 use Rattle.laws.proofs.Prelude.{set, length-set, length-append, length-drop, drop_of_length-le, sets, length-sets, drop-cons}
 use Rattle.decimal.specs.Decimal.{decimalℤ}
 use Rattle.decimal.specs.Print.{Printing}
@@ -18,28 +18,25 @@ pub record LinePrinting (vs : List ℤ) (out₀ : List ℕ) (at p j : ℕ) (out 
   pub place : p + length (line_text (drop j vs)) ≡ at + length (line_text vs)
   pub rest : sets out p (line_text (drop j vs)) ≡ sets out₀ at (line_text vs)
 
-pub start : {vs : List ℤ} {out : List ℕ} {at : ℕ} → at + 12 * length vs ≤ length out → LinePrinting vs out at at 0 out
-start h = record { within = omega arith; long = refl; room = h; few = omega arith; place = refl; rest = refl }
-
 module _ {vs : List ℤ} {out₀ : List ℕ} {at p j : ℕ} {out : List ℕ} (l : LinePrinting vs out₀ at p j out) where
   pub next_field : {i : ℕ} {out₁ : List ℕ} → j < length vs → Printing (decimalℤ (get_or vs j (pos 0))) out p i out₁ → i ≤ p + 11
-      → LinePrinting vs out₀ at (i + 1) (j + 1) (set out₁ i (end_at (length vs - (j + 1))))
+      → LinePrinting vs out₀ at (i + 1) (j + 1) (set out₁ i (end_at (length vs - 1 - j)))
   unfolding line_text
   next_field {i} {out₁} h q b =
       let v = get_or vs j (pos 0) in
       let after = drop (j + 1) vs in
-      let end : end_at (length vs - (j + 1)) ≡ field_end after = sym (ends after ∙ ap end_at (length-drop (j + 1) vs)) in
+      let end : end_at (length vs - 1 - j) ≡ field_end after = sym (ends after ∙ ap end_at (omega (arith, length-drop (j + 1) vs))) in
       let split : drop j vs ≡ v ∷ after = drop-cons vs j (pos 0) h ∙ ap (λ (n : ℕ). v ∷ drop n vs) (sym (add-one j)) in
       let text : line_text (drop j vs) ≡ decimalℤ v ++ (field_end after ∷ line_text after) = ap line_text split in
       let size : length out₁ ≡ length out = ap length q.printed ∙ length-sets out p (decimalℤ v) in
       record {
         within = omega arith;
-        long = length-set out₁ i (end_at (length vs - (j + 1))) ∙ size ∙ l.long;
+        long = length-set out₁ i (end_at (length vs - 1 - j)) ∙ size ∙ l.long;
         room = simp length-set (omega (arith, l.room));
         few = omega (arith, l.few);
         place = omega (arith, ap length text, length-append (decimalℤ v) (field_end after ∷ line_text after), q.answer, l.place);
         rest =
-            ap (λ (n : ℕ). sets (set out₁ i (end_at (length vs - (j + 1)))) n (line_text after)) (add-one i)
+            ap (λ (n : ℕ). sets (set out₁ i (end_at (length vs - 1 - j))) n (line_text after)) (add-one i)
             ∙ ap (λ (b : ℕ). sets (set out₁ i b) (suc i) (line_text after)) end
             ∙ ap (λ (o : List ℕ). sets o i (field_end after ∷ line_text after)) q.printed
             ∙ ap (λ (n : ℕ). sets (sets out p (decimalℤ v)) n (field_end after ∷ line_text after)) q.answer

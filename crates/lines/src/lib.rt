@@ -7,40 +7,16 @@ ghost use Rattle.lines.specs.Text.{line_text};
 ghost use Rattle.lines.specs.Parse.{end_at, starts_number, parse_lines, parse_block};
 ghost use Rattle.lines.specs.Read.{PrefixRead, LineRead, LinesRead};
 
-use decimal::Signed;
-
-// The place after what was read, or a broken form.
-#[derive(Clone, Copy)]
-pub enum Place {
-    At(usize),
-    Broken,
-}
-
-// How many lines were read, and the place after them, or a broken form.
-#[derive(Clone, Copy)]
-pub enum Block {
-    Lines(usize, usize),
-    Cut,
-}
-
-// Passes over a prefix, byte for byte.
-pub fn read_prefix(s: &[u8], at: usize, prefix: &[u8]) -> Place
+// Passes over a prefix, byte for byte, to the place after it.
+pub fn read_prefix(s: &[u8], at: usize, prefix: &[u8]) -> Option<usize>
     requires { at ≤ length s.now }
     ensures { PrefixRead prefix.now s.now at result }
 {
-    let mut i = at;
-    let mut j: usize = 0;
-    while j < prefix.len() {
-        if s.len() <= i {
-            return Place::Broken;
-        }
-        if s[i] != prefix[j] {
-            return Place::Broken;
-        }
-        i += 1;
-        j += 1;
+    if s[at..].starts_with(prefix) {
+        Some(at + prefix.len())
+    } else {
+        None
     }
-    Place::At(i)
 }
 
 // What ends a field that has `left` fields after it in its line.
@@ -50,30 +26,24 @@ fn end_at(left: usize) -> u8
     if left == 0 { b'\n' } else { b' ' }
 }
 
-// Reads a line of k numbers, and stores them from place o on.
-pub fn read_line(s: &[u8], at: usize, k: usize, out: &mut [i32], o: usize) -> Place
+// Reads a line of k numbers, and stores them from place o on: the place after the line.
+pub fn read_line(s: &[u8], at: usize, k: usize, out: &mut [i32], o: usize) -> Option<usize>
     requires { (at ≤ length s.now) × (o + k ≤ length out.old) }
     ensures { LineRead k s.now at out.old o result out.new }
 {
     let mut i = at;
-    let mut p = o;
-    let mut left = k;
-    while 0 < left {
-        let Signed::Integer(v, next) = decimal::read_signed(s, i) else {
-            return Place::Broken;
-        };
+    for j in 0..k {
+        let (v, next) = decimal::read_signed(s, i)?;
         if s.len() <= next {
-            return Place::Broken;
+            return None;
         }
-        left -= 1;
-        if s[next] != end_at(left) {
-            return Place::Broken;
+        if s[next] != end_at(k - 1 - j) {
+            return None;
         }
-        out[p] = v;
-        p += 1;
+        out[o + j] = v;
         i = next + 1;
     }
-    Place::At(i)
+    Some(i)
 }
 
 // Whether a number comes next.
@@ -87,38 +57,46 @@ fn starts_number(s: &[u8], at: usize) -> bool
     decimal::is_digit(b) | (b == b'-')
 }
 
-// Reads lines of k numbers while numbers come, at most m lines, and stores them from the front on.
-pub fn read_lines(s: &[u8], at: usize, m: usize, k: usize, out: &mut [i32]) -> Block
+// Reads lines of k numbers while numbers come, at most m lines, and stores them from the front on: how many lines,
+// and the place after them.
+pub fn read_lines(
+    s: &[u8],
+    at: usize,
+    m: usize,
+    k: usize,
+    out: &mut [i32],
+) -> Option<(usize, usize)>
     requires { (at ≤ length s.now) × (m * k ≤ length out.old) }
     ensures { LinesRead (parse_lines m k (drop at s.now)) s.now out.old result
         out.new }
 {
     let mut i = at;
     let mut p: usize = 0;
-    let mut left = m;
-    while 0 < left {
+    for j in 0..m {
         if !starts_number(s, i) {
-            return Block::Lines(m - left, i);
+            return Some((j, i));
         }
-        let Place::At(next) = read_line(s, i, k, out, p) else {
-            return Block::Cut;
-        };
-        i = next;
+        i = read_line(s, i, k, out, p)?;
         p += k;
-        left -= 1;
     }
-    Block::Lines(m - left, i)
+    Some((m, i))
 }
 
-// A block: a line of names, then lines of k numbers, at most m of them.
-pub fn read_block(s: &[u8], at: usize, names: &[u8], m: usize, k: usize, out: &mut [i32]) -> Block
+// A block: a line of names, then lines of k numbers, at most m of them: how many lines of numbers, and the place after
+// them.
+pub fn read_block(
+    s: &[u8],
+    at: usize,
+    names: &[u8],
+    m: usize,
+    k: usize,
+    out: &mut [i32],
+) -> Option<(usize, usize)>
     requires { (at ≤ length s.now) × (m * k ≤ length out.old) }
     ensures { LinesRead (parse_block names.now m k (drop at s.now)) s.now
         out.old result out.new }
 {
-    let Place::At(first) = read_prefix(s, at, names) else {
-        return Block::Cut;
-    };
+    let first = read_prefix(s, at, names)?;
     read_lines(s, first, m, k, out)
 }
 
@@ -129,11 +107,9 @@ pub fn print_line(out: &mut [u8], at: usize, numbers: &[i32]) -> usize
         × (result ≤ at + 12 * length numbers.now) }
 {
     let mut p = at;
-    let mut j: usize = 0;
-    while j < numbers.len() {
-        let end = decimal::print_signed(out, p, numbers[j]);
-        j += 1;
-        out[end] = end_at(numbers.len() - j);
+    for (j, number) in numbers.iter().enumerate() {
+        let end = decimal::print_signed(out, p, *number);
+        out[end] = end_at(numbers.len() - 1 - j);
         p = end + 1;
     }
     p

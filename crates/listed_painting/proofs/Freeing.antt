@@ -2,7 +2,7 @@
 -- ascend, so that the clips below it are those that are passed. Assumes nothing.
 use Rattle.std.specs.Prelude.{◌≡◌, ◌&&◌, ◌∷◌, ◌++◌, ◌+◌, ◌≤◌, ◌<◌}
 use Rattle.laws.proofs.Prelude.{refl, sym, ap, ◌∙◌, Bool, true, false, cond, not, and-true, and-false, List, [], Option}
-use Rattle.laws.proofs.Prelude.{some, none, ℕ, zero, suc, eq-or-lt_of_le, arith, lt-ltb, le-ltb, leb-true, leb-false}
+use Rattle.laws.proofs.Prelude.{Some, None, ℕ, zero, suc, eq-or-lt_of_le, arith, lt-ltb, le-ltb, leb-true, leb-false}
 use Rattle.laws.proofs.Prelude.{⊎_elim, leb, ltb, length, get_or, take, length-map, List·getD-map, Answer, refused, given}
 use Rattle.layer_table.specs.Lookup.{lookup}
 use Rattle.styling.specs.Ascending.{strictly_ascends}
@@ -53,7 +53,7 @@ module _ (table : List Layer) (id : ℕ) where
   met : (x : Item) (found : Option Item) (below : ℕ) → x.id < id → Tells found below → Tells (latest_with table id x found) (free_after x below)
   met x found below h t = rw (lt-ltb x.id id h) (by (is_clip x.func))
     where
-      by : (c : Bool) → is_freed (cond (c && true) (some x) found) id ≡ ltb id (cond c (cond x.full (last_reached x.id x.func + 1) 0) below)
+      by : (c : Bool) → is_freed (cond (c && true) (Some x) found) id ≡ ltb id (cond c (cond x.full (last_reached x.id x.func + 1) 0) below)
       by true = tell_clip x.full (last_reached x.id x.func)
       by false = t
 
@@ -100,4 +100,4 @@ module _ (ls : List Listed) (up : strictly_ascends (listed_ids ls) ≡ true) whe
   needs_passed table func i below h e =
       ap (λ (n : ℕ). is_clipped_of func && not (ltb (get_or ls i no_listed).id n)) e
       ∙ sym (ap (λ (b : Bool). is_clipped_of func && not b)
-      (passed_tell table (get_or ls i no_listed).id ls i none 0 (λ k p q. id_lt k i p h) (λ k p q. ⊎_elim (λ s. omega (arith, ap (λ (m : ℕ). (get_or ls m no_listed).id) s)) (λ s. omega (arith, id_lt i k s q)) (eq-or-lt_of_le p)) (sym (le-ltb (get_or ls i no_listed).id 0 (omega arith)))))
+      (passed_tell table (get_or ls i no_listed).id ls i None 0 (λ k p q. id_lt k i p h) (λ k p q. ⊎_elim (λ s. omega (arith, ap (λ (m : ℕ). (get_or ls m no_listed).id) s)) (λ s. omega (arith, id_lt i k s q)) (eq-or-lt_of_le p)) (sym (le-ltb (get_or ls i no_listed).id 0 (omega arith)))))

@@ -1,7 +1,7 @@
 -- The walk that paints a tile's layers: what it holds at the start and after each layer, and that the layer it meets is painted as by itself.
 -- Assumes nothing.
 use Rattle.std.specs.Prelude.{◌≡◌, ◌&&◌, ◌+◌, ◌<◌}
-use Rattle.laws.proofs.Prelude.{refl, sym, ap, ap₂, subst, ◌∙◌, Bool, true, false, cond, not, false≢true, ⊎_elim, List, ℕ}
+use Rattle.laws.proofs.Prelude.{Option, refl, sym, ap, ap₂, subst, ◌∙◌, Bool, true, false, cond, not, false≢true, ⊎_elim, List, ℕ}
 use Rattle.laws.proofs.Prelude.{add-one, arith, ltb, Float, ℤ, length, get_or, take, take-suc, refused, given, is_given, cons_lt, le_or_lt}
 use Rattle.laws.proofs.Drops.{cons_at}
 use Rattle.pixel_segment.specs.Field.{cpu}
@@ -25,9 +25,7 @@ use Rattle.pass_statements.specs.Entry.{Entry}
 use Rattle.pass_statements.specs.Item.{item_for}
 use Rattle.layer_workbench.specs.Work.{entry_of}
 use Rattle.row_carries.proofs.Merged.{listed_cover, listed_own}
-use Rattle.painter.specs.Clip.{clip_in}
 use Rattle.painter.specs.InnerOwn.{PaintsOwn}
-use Rattle.painter.specs.declared.Clip as painter
 use Rattle.painter.specs.declared.painting.Painting as painting
 use Rattle.painter.proofs.Painted.{painted}
 use Rattle.listed_painting.specs.InnerFreeing.{free_after, free_by, free_from}
@@ -39,7 +37,7 @@ module _ (table : List Layer) (n : ℕ) (ids : List ℕ) (covers : List ℤ) (pa
   abbrev whole : List Listed
   whole = layers_in (queue_of n ids covers) part
 
-  pub begun : (clip : painter.Clip) (hint : ℕ) → WalkHolds table n ids covers part (record { passed = 0; carries = 0; segments = 0; clip = clip; free_below = 0; hint = hint })
+  pub begun : (clip : Option ℕ) (hint : ℕ) → WalkHolds table n ids covers part (record { passed = 0; carries = 0; segments = 0; clip = clip; free_below = 0; hint = hint })
   unfolding free_from
   begun clip hint =
       let w = walk_start n ids covers part in
@@ -78,7 +76,7 @@ module _ (table : List Layer) (n : ℕ) (ids : List ℕ) (covers : List ℤ) (pa
           ∙ sym (ap (λ (ls : List Listed). free_from table ls 0) (ap (λ (k : ℕ). take k whole) (add-one w.passed) ∙ take-suc whole w.passed no_listed inside))
 
       -- after the layer
-      pub stepped : (clip : painter.Clip) {below : ℕ} (hint : ℕ) → below ≡ free_by (lookup table r.id) (met w r) w.free_below → WalkHolds table n ids covers part (record { passed = w.passed + 1; carries = r.i; segments = r.end; clip = clip; free_below = below; hint = hint })
+      pub stepped : (clip : Option ℕ) {below : ℕ} (hint : ℕ) → below ≡ free_by (lookup table r.id) (met w r) w.free_below → WalkHolds table n ids covers part (record { passed = w.passed + 1; carries = r.i; segments = r.end; clip = clip; free_below = below; hint = hint })
       stepped clip hint e =
           let v = walk_next_lem n ids covers part walking r s m in
           record { carries_in = v.within_i; segments_in = v.within_j; few = v.few; inside = v.inside; left = v.left; free = free_next e }
@@ -118,7 +116,7 @@ module _ (table : List Layer) (n : ℕ) (ids : List ℕ) (covers : List ℤ) (pa
             → lookup table r.id ≡ given layer
             → cover ≡ cond r.carried (cover_entry 16 w.carries covers) zeros → own ≡ between w.segments r.end part
             → needs ≡ (is_clipped_of layer.props.func && not (ltb r.id w.free_below))
-            → PaintsOwn own cover r.id layer needs (clip_in w.clip) old p plane
+            → PaintsOwn own cover r.id layer needs w.clip old p plane
             → below ≡ free_after (item_for layer (record { id = r.id; cover = cover; segments = ltb w.segments r.end; changed = false })) w.free_below
             → PaintsNext table n ids covers part w old (record { walk = v; id = r.id; mark = p.mark }) plane
         paints_next {v} {layer} {cover} {own} {needs} {old} {plane} {below} {hint} p e found ec eo en po eb =
@@ -129,7 +127,7 @@ module _ (table : List Layer) (n : ℕ) (ids : List ℕ) (covers : List ℤ) (pa
               id_is = id_is;
               paints = λ l el.
                   let same : layer ≡ l = cc (found, el, id_is) in
-                  let t = painted table (queue_of n ids covers) part (id_in (queue_of n ids covers) part w.passed) layer (clip_in w.clip) old
+                  let t = painted table (queue_of n ids covers) part (id_in (queue_of n ids covers) part w.passed) layer w.clip old
                   (eo ∙ own_is) (ec ∙ cover_is)
                   (en ∙ ap (λ (k : ℕ). is_clipped_of layer.props.func && not (ltb k w.free_below)) id_is ∙ needs_passed whole (list_ascends (queue_of n ids covers) part up o.ordered) table layer.props.func w.passed w.free_below inside h.free)
                   (rw id_is at po) in

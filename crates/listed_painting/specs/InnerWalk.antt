@@ -1,13 +1,12 @@
 -- What a walk over a tile's layers holds before each of them, and what passing over the next layer and painting it give.
 use Rattle.std.specs.Prelude.{◌≡◌, ◌+◌, ◌≤◌, ◌<◌}
-use Rattle.laws.specs.Prelude.{true, List, none, ℕ, Float, ℤ, length, drop, take, get_or, given, is_given}
+use Rattle.laws.specs.Prelude.{true, List, None, ℕ, Float, ℤ, length, drop, take, get_or, given, is_given}
 use Rattle.layer_table.specs.Lookup.{lookup}
 use Rattle.layer_table.specs.Table.{Table}
 use Rattle.styling.specs.declared.Layer.{Layer}
 use Rattle.queue_statements.specs.Queue.{Carry, queue_of, Queued}
 use Rattle.tile_layers.specs.Listing.{no_listed, layers_in}
 use Rattle.tile_layers.specs.InnerWalk.{Walks, layers_left}
-use Rattle.painter.specs.Clip.{clip_in}
 use Rattle.painter.specs.Painting.{is_light_in, Paints}
 use Rattle.listed_painting.specs.InnerFreeing.{free_from}
 use Rattle.listed_painting.specs.declared.PaintWalk.{PaintWalk}
@@ -33,7 +32,7 @@ pub record WalkHolds (table : List Layer) (n : ℕ) (ids : List ℕ) (covers : L
 pub record WalkStarts (table : List Layer) (n : ℕ) (ids : List ℕ) (covers : List ℤ) (part : List ℕ) (skipped : ℕ) (w : PaintWalk) : Type 0 where
   pub holds : WalkHolds table n ids covers part w
   pub past : w.passed ≡ skipped
-  pub no_clip : clip_in w.clip ≡ none
+  pub no_clip : w.clip ≡ None
 
 -- before the first layer of any tile
 pub record StartsAnywhere (w : PaintWalk) : Type 0 where
@@ -61,4 +60,4 @@ pub record PaintsNext (table : List Layer) (n : ℕ) (ids : List ℕ) (covers : 
   pub one_more : r.walk.passed ≡ w.passed + 1
   pub id_is : r.id ≡ id_in (queue_of n ids covers) part w.passed
   pub paints : (layer : Layer) → lookup table (id_in (queue_of n ids covers) part w.passed) ≡ given layer
-      → Paints table (queue_of n ids covers) part (id_in (queue_of n ids covers) part w.passed) layer (clip_in w.clip) old (record { clip = r.walk.clip; mark = r.mark }) plane
+      → Paints table (queue_of n ids covers) part (id_in (queue_of n ids covers) part w.passed) layer w.clip old (record { clip = r.walk.clip; mark = r.mark }) plane

@@ -13,8 +13,7 @@ ghost use Rattle.listed_painting.specs.InnerWalk.{Painter, WalkHolds, WalkStarts
 ghost use Rattle.listed_painting.specs.InnerWalk.{PassesOver, CanPaint, PaintsNext};
 
 use cover::Cover;
-use layer_table::Found;
-use painter::{Clip, painting};
+use painter::painting;
 use styling::{Func, Layer};
 use tile_layers::walk;
 use tile_layers::walk::Next;
@@ -27,7 +26,7 @@ pub struct PaintWalk {
     pub passed: usize,
     pub carries: usize,
     pub segments: usize,
-    pub clip: Clip,
+    pub clip: Option<u32>,
     pub free_below: u64,
     pub hint: usize,
 }
@@ -48,7 +47,7 @@ pub fn start() -> PaintWalk
         passed: 0,
         carries: 0,
         segments: 0,
-        clip: Clip::Absent,
+        clip: None,
         free_below: 0,
         hint: 0,
     }
@@ -91,7 +90,7 @@ fn needs_clip(func: Func, id: u32, free_below: u64) -> bool
 }
 
 // The walk after the layer that was met.
-fn step(passed: usize, next: Next, clip: Clip, free_below: u64, hint: usize) -> PaintWalk
+fn step(passed: usize, next: Next, clip: Option<u32>, free_below: u64, hint: usize) -> PaintWalk
     requires { passed < 18446744073709551615 }
     ensures { result ≡ record {
       passed = passed + 1;
@@ -136,12 +135,12 @@ pub fn pass_over(
     let next = walk::next_layer(ids, n, part, i, j);
     let cover = walk::incoming_cover(covers, next.carried, i);
     match layer_table::find_from(layers, count, at.hint, next.id) {
-        Found::At(p) => {
+        Some(p) => {
             let layer = layer_table::layer_at(layers, colors, p);
             let free_below = free_after(layer, next.id, cover, j < next.end, at.free_below);
             step(at.passed, next, clip, free_below, p + 1)
         }
-        Found::Absent => step(at.passed, next, clip, at.free_below, at.hint),
+        None => step(at.passed, next, clip, at.free_below, at.hint),
     }
 }
 
@@ -162,10 +161,8 @@ pub fn start_past(
         n ids.now covers.now part.now skipped result }
 {
     let mut at = start();
-    let mut i: usize = 0;
-    while i < skipped {
+    for _ in 0..skipped {
         at = pass_over(ids, covers, n, part, layers, colors, count, at);
-        i += 1;
     }
     at
 }
@@ -196,7 +193,7 @@ pub fn paint_next(
     let end = next.end;
     let cover = walk::incoming_cover(covers, next.carried, i);
     match layer_table::find_from(layers, count, at.hint, next.id) {
-        Found::At(p) => {
+        Some(p) => {
             let layer = layer_table::layer_at(layers, colors, p);
             let props = layer.props;
             let func = props.func;
@@ -211,7 +208,7 @@ pub fn paint_next(
                 mark: painted.mark,
             }
         }
-        Found::Absent => PaintedNext {
+        None => PaintedNext {
             walk: step(at.passed, next, clip, at.free_below, at.hint),
             id: next.id,
             mark: 0,

@@ -1,5 +1,5 @@
 -- The run of specs/Example. Assumes nothing.
-use Rattle.std.specs.Prelude.{◌≡◌, ◌∷◌}
+use Rattle.std.specs.Prelude.{◌≡◌, ◌∷◌, None, Ok}
 use Rattle.laws.proofs.Prelude.{refl, ◌∙◌, [], given}
 use Rattle.refusals.specs.Refusal.{pass, refuse}
 use Rattle.pixel_segment.specs.Field.{cover_of, tile_of}
@@ -16,7 +16,6 @@ use Rattle.tile_layers.specs.Groups.{groups_of}
 use Rattle.tile_layers.specs.Listing.{list_of}
 use Rattle.layer_carrying.specs.Carrying.{handed_on}
 use Rattle.row_carries.specs.Carries.{queue_after}
-use Rattle.painter.specs.declared.Clip.TheVariants.{Absent}
 use Rattle.row_statements.specs.Lent.{Columns, queue_over}
 use Rattle.row_statements.specs.Opening.{left_of, open_verdict, open_count, open_of, OpensRow}
 use Rattle.row_statements.specs.TileWork.{args_verdict, list_verdict}
@@ -25,7 +24,6 @@ use Rattle.row_statements.specs.Due.{at_first}
 use Rattle.row_statements.specs.Run.{open_row}
 use Rattle.row_statements.specs.Example.{room}
 use Rattle.row_statements.specs.declared.RowState.{RowState}
-use Rattle.row_statements.specs.declared.Opened.TheVariants as opened
 use Rattle.row_statements.proofs.Run.{accepted, is_open, held_first_lem}
 use Rattle.row_statements.proofs.Example as row
 use Rattle.listing_statements.specs.Listing.{list_call_verdict}
@@ -36,7 +34,7 @@ use Rattle.listing_runs.proofs.Runs.{exists}
 -- ---- the opening
 
 first : RowState
-first = record { tile_y = 0; from = 0; to = 3; next = 0; left = 4; taken = 0; clip = Absent }
+first = record { tile_y = 0; from = 0; to = 3; next = 0; left = 4; taken = 0; clip = None }
 
 held : Columns
 held = queue_over (open_queue (left_of three_tiles)) (room 256)
@@ -45,7 +43,7 @@ counted : open_count (open_verdict three_tiles (room 256)) (left_of three_tiles)
 unfolding open_verdict is_table_short is_valid is_table strictly_ascends_from ascends_from layer_at is_light_opening is_light add_to add_all cover_of left_part search_of halved tile_of
 counted = refl
 
-opens : OpensRow (open_of three_tiles (room 256)) (opened.Row first) held
+opens : OpensRow (open_of three_tiles (room 256)) (Ok first) held
 unfolding first held open_of
 opens = rw counted (record { answer = refl; lent_is = refl })
 

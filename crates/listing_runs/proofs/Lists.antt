@@ -1,5 +1,5 @@
 -- The lists that a caller holds: a list that an accepted listing or work left is its tile's, and each of them is found again. Assumes nothing.
-use Rattle.std.specs.Prelude.{◌≡◌, ◌⊎◌, ◌∷◌, ◌+◌, ◌<◌}
+use Rattle.std.specs.Prelude.{◌≡◌, ◌⊎◌, ◌∷◌, ◌+◌, ◌<◌, Option}
 use Rattle.laws.proofs.Prelude.{refl, ap, sym, subst, ◌∙◌, inl, inr, false, List, [], map, ℕ, zero, suc, arith, ℤ, pos}
 use Rattle.laws.proofs.Prelude.{length, length-map, eq_or_ne}
 use Rattle.refusals.specs.Refusal.{pass}
@@ -14,8 +14,7 @@ use Rattle.tile_layers.specs.Listing.{Listed}
 use Rattle.tile_layers.proofs.Wide.{list_wide}
 use Rattle.pass_statements.specs.Item.{item_of}
 use Rattle.pass_statements.proofs.Words.{outcome_long}
-use Rattle.layer_workbench.specs.Work.{entry_of, outcome_by_entries, outcome_in, clear_unchanged, count_from}
-use Rattle.layer_workbench.specs.declared.PreviousClear.{PreviousClear}
+use Rattle.layer_workbench.specs.Work.{entry_of, outcome_by_entries, outcome_in, clear_unchanged}
 use Rattle.row_carries.proofs.Carried.{layers_ascend, queue_wide}
 use Rattle.row_statements.specs.TileWork.{list_verdict}
 use Rattle.row_statements.specs.Due.{OpenRow, at_first, table_on, queue_on, layers_on, state_on, is_not_due}
@@ -28,10 +27,10 @@ use Rattle.listing_runs.specs.Run.{HeldList, AmongLists}
 use Rattle.listing_runs.specs.InnerHolding.{HoldsList, HoldsLists}
 
 -- a flag for each layer
-pub masks_long : (table : List Layer) (k : kept.Kept) (clear : Color) (previous : PreviousClear) (ls : List Listed) → length (outcome_in table k clear previous ls).unmasked ≡ length ls
+pub masks_long : (table : List Layer) (k : kept.Kept) (clear : Color) (previous : Option Color) (ls : List Listed) → length (outcome_in table k clear previous ls).unmasked ≡ length ls
 unfolding outcome_by_entries
 masks_long table k clear previous ls =
-    outcome_long clear (clear_unchanged previous clear) (count_from (previous_count k)) (map (item_of table) (map (entry_of table) ls))
+    outcome_long clear (clear_unchanged previous clear) (previous_count k) (map (item_of table) (map (entry_of table) ls))
     ∙ length-map (map (entry_of table) ls) (item_of table)
     ∙ length-map ls (entry_of table)
 

@@ -1,5 +1,5 @@
 -- The claims of specs/Marked; the frames are computed. Assumes nothing.
-use Rattle.std.specs.Prelude.{◌≡◌, ◌∷◌}
+use Rattle.std.specs.Prelude.{◌≡◌, ◌∷◌, Option}
 use Rattle.laws.proofs.Prelude.{refl, ap, ap₂, Bool, true, false, cond, List, [], map, ℕ, eqb, eq, of_bits, Answer, refused, given}
 use Rattle.cover_statements.specs.Cover.{is_full}
 use Rattle.styling.specs.declared.Color.{Color}
@@ -13,8 +13,7 @@ use Rattle.pass_statements.specs.Decide.{shown_from, outcome_of}
 use Rattle.pass_statements.specs.Entry.{Entry}
 use Rattle.pass_statements.specs.Item.{item_from, item_of, items_of}
 use Rattle.pass_statements.specs.declared.item.Item.{Item}
-use Rattle.layer_workbench.specs.Work.{clear_unchanged, count_from, outcome_by_entries}
-use Rattle.layer_workbench.specs.declared.PreviousClear.{PreviousClear}
+use Rattle.layer_workbench.specs.Work.{clear_unchanged, outcome_by_entries}
 use Rattle.listing_runs.specs.Marked.{restated, MarksAlone, MarkedFrames}
 
 -- ---- the table's own word
@@ -45,11 +44,11 @@ module _ (says : Layer → Bool) where
   same_items table [] = refl
   same_items table (e ∷ es) = ap₂ (λ (x : Item) (xs : List Item). x ∷ xs) (same_item table e) (same_items table es)
 
-  alone : (table : List Layer) (k : kept.Kept) (clear : Color) (previous : PreviousClear) (entries : List Entry)
+  alone : (table : List Layer) (k : kept.Kept) (clear : Color) (previous : Option Color) (entries : List Entry)
       → outcome_by_entries (map (restated says) table) k clear previous entries ≡ outcome_by_entries table k clear previous entries
   unfolding outcome_by_entries
   alone table k clear previous entries =
-      ap (outcome_of clear (clear_unchanged previous clear) (count_from (previous_count k))) (same_items table entries)
+      ap (outcome_of clear (clear_unchanged previous clear) (previous_count k)) (same_items table entries)
 
 -- deciding goes by the list
 pub marks_alone : MarksAlone

@@ -1,5 +1,6 @@
 -- The claim is not empty: after every accepted opening, every list of choices is the list of some run's calls. Assumes nothing.
-use Rattle.std.specs.Prelude.{◌≡◌, ◌||◌, ◌∷◌, ◌+◌, ◌-◌, ◌<◌}
+use Rattle.refusals.specs.declared.Refusal.{Refusal}
+use Rattle.std.specs.Prelude.{◌≡◌, ◌||◌, ◌∷◌, ◌+◌, ◌-◌, ◌<◌, Result, Ok, Err}
 use Rattle.laws.proofs.Prelude.{refl, ap, sym, subst, ◌∙◌, Bool, true, false, not, List, [], ℕ, suc, arith, not-true}
 use Rattle.laws.proofs.Prelude.{ltb-true, ltb, Float, ℤ, pos, length, take, lt_z, Answer, refused, given, plus, left, right, whole, equal, lt_false}
 use Rattle.refusals.specs.Refusal.{Judgement, pass, refuse, unless}
@@ -8,6 +9,8 @@ use Rattle.styling.specs.Ascending.{strictly_ascends}
 use Rattle.cached_tile.specs.Kept.{tag_out_of_range}
 use Rattle.cached_tile.specs.declared.kept.Kept as kept
 use Rattle.layer_carrying.specs.Carrying.{handed_on}
+use Rattle.pass_statements.specs.declared.Index.{Index}
+use Rattle.pass_statements.specs.declared.decide.Decision.{Decision}
 use Rattle.pass_statements.specs.Decision.{TileDecision}
 use Rattle.pass_statements.specs.Decide.{Outcome}
 use Rattle.row_statements.specs.Lent.{is_queue_short, layers_of, is_lent_table}
@@ -22,11 +25,7 @@ use Rattle.row_statements.proofs.Run.{still_holds}
 use Rattle.row_statements.proofs.Runs.{state_out, state_back, decision_out, decision_back, listed_named, five_named, then_named, as_held, held_work, held_paint, work_goes, paint_goes, turned, still_held, work_turned, paint_turned, work_turned_lem, paint_turned_lem}
 use Rattle.listing_statements.specs.Listing.{ListCall, ListLent, ListGiven, is_tile_list_short, is_listing_short, list_call_verdict, listed_by, listed_verdict, listing_verdict, listing_out, listing_of, ListsTile}
 use Rattle.listing_statements.specs.Deciding.{DecideCall, DecideSays, DecideGiven, is_deciding_short, are_in_table, lines_for, deciding_verdict, deciding_out, decided_outcome, deciding_of, DecidesTile}
-use Rattle.listing_statements.specs.declared.ListAnswer.{ListAnswer}
-use Rattle.listing_statements.specs.declared.ListAnswer.TheVariants as listed
 use Rattle.listing_statements.specs.declared.TileListed.{TileListed}
-use Rattle.listing_statements.specs.declared.DecideAnswer.{DecideAnswer}
-use Rattle.listing_statements.specs.declared.DecideAnswer.TheVariants as decided
 use Rattle.listing_statements.specs.declared.TileDecided.{TileDecided}
 use Rattle.listing_runs.specs.Due.{ListChoice, list_due_verdict, list_due, DecideChoice, outcome_due, nth_on, decide_due_verdict, decide_due}
 use Rattle.listing_runs.specs.Run.{HeldList, HeldAll, held_with, SameEntries, RowCall, list_on, decide_on, CallStep, RowCalls}
@@ -38,13 +37,13 @@ use Rattle.listing_runs.proofs.Run.{call_right}
 
 -- ---- an answer of the code for what is due
 
-abbrev listed_out : Answer ℕ → ListAnswer
-listed_out (refused n) = listed.Refused (refusal_of n)
-listed_out (given n) = listed.Listed n
+abbrev listed_out : Answer ℕ → Result ℕ Refusal
+listed_out (refused n) = Err (refusal_of n)
+listed_out (given n) = Ok n
 
-abbrev decided_out : Answer DecideSays → DecideAnswer
-decided_out (refused n) = decided.Refused (refusal_of n)
-decided_out (given t) = decided.Decided (decision_out t.decision) (record { 0 = t.skipped })
+abbrev decided_out : Answer DecideSays → Result (Decision × Index) Refusal
+decided_out (refused n) = Err (refusal_of n)
+decided_out (given t) = Ok (decision_out t.decision, record { 0 = t.skipped })
 
 abbrev pub list_result : ListGiven → TileListed
 list_result g = record { state = state_out g.state; answer = listed_out g.answer }

@@ -1,13 +1,14 @@
 -- A listing and a deciding in a run: what they give is what is due, and what the caller then holds is again the row's. Assumes nothing.
-use Rattle.std.specs.Prelude.{◌≡◌, ◌||◌, ◌+◌, ◌<◌}
+use Rattle.row_statements.specs.declared.TileDone.{TileDone}
+use Rattle.refusals.specs.declared.Refusal.{Refusal}
+use Rattle.std.specs.Prelude.{◌≡◌, ◌||◌, ◌+◌, ◌<◌, None, Result, Ok, Err}
 use Rattle.laws.proofs.Prelude.{refl, ap, sym, subst, ◌∙◌, Bool, false, List, map, ℕ, suc, arith, ltb, length, take, drop}
 use Rattle.laws.proofs.Prelude.{take_at, Answer, refused, given, plus, over}
-use Rattle.refusals.specs.Refusal.{Judgement, pass, refuse, unless}
+use Rattle.refusals.specs.Refusal.{Judgement, pass, refuse, unless, given_or_refused}
 use Rattle.refusals.proofs.Judging.{passed, or_left, or_right}
 use Rattle.cached_tile.specs.Kept.{no_tile, tag_out_of_range}
 use Rattle.tile_layers.specs.Listing.{Listed}
 use Rattle.layer_workbench.specs.Work.{entry_of}
-use Rattle.layer_workbench.specs.declared.PreviousClear.TheVariants.{Absent}
 use Rattle.row_statements.specs.Lent.{Columns, carries_in, is_queue_short, is_list_short, queue_over}
 use Rattle.row_statements.specs.State.{State, state_in, next_state}
 use Rattle.row_statements.specs.TileWork.{WorkLent, TileAnswer, list_verdict, work_out, work_answer}
@@ -16,16 +17,12 @@ use Rattle.row_statements.specs.Due.{OpenRow, Past, WorkChoice, table_on, queue_
 use Rattle.row_statements.specs.Run.{Held, SameCarries, Event}
 use Rattle.row_statements.specs.Claim.{Right, past_after}
 use Rattle.row_statements.specs.InnerHolding.{IsOpen, Holds}
-use Rattle.row_statements.specs.declared.WorkAnswer.{WorkAnswer}
-use Rattle.row_statements.specs.declared.WorkAnswer.TheVariants as worked
 use Rattle.row_statements.proofs.WorkSteps.{work_due_lem, past_tile}
 use Rattle.row_statements.proofs.Run.{facts}
-use Rattle.listing_statements.specs.Listing.{TileList, ListLent, ListGiven, entries_from, is_tile_list_short, listed_over, listing_out, listing_of, list_answer, ListsTile}
+use Rattle.listing_statements.specs.Listing.{TileList, ListLent, ListGiven, entries_from, is_tile_list_short, listed_over, listing_out, listing_of, ListsTile}
 use Rattle.listing_statements.specs.Deciding.{DecideGiven, deciding_out, deciding_of, DecidesTile}
 use Rattle.listing_statements.specs.Succession.{lent_part}
 use Rattle.listing_statements.specs.InnerLists.{ListSays}
-use Rattle.listing_statements.specs.declared.ListAnswer.{ListAnswer}
-use Rattle.listing_statements.specs.declared.ListAnswer.TheVariants as listed
 use Rattle.listing_statements.specs.declared.TileListed.{TileListed}
 use Rattle.listing_statements.specs.declared.TileDecided.{TileDecided}
 use Rattle.listing_statements.proofs.AsWork.{no_color, or-false, as_lent, without_decision, out_same, listing_is}
@@ -42,7 +39,7 @@ use Rattle.listing_runs.proofs.Lists.{masks_long, held_list}
 module _ {o : OpenRow} {p : Past} {h : Held} (is_open : IsOpen o) (holds : Holds o p h) (c : ListChoice) (same : SameCarries h.state.left h.queue c.queue) where
   -- the work on a tile that keeps nothing
   abbrev as_choice : WorkChoice
-  as_choice = record { tile = c.tile; kept = no_tile; clear = no_color; previous = Absent; queue = c.queue; lent = as_lent c.lent }
+  as_choice = record { tile = c.tile; kept = no_tile; clear = no_color; previous = None; queue = c.queue; lent = as_lent c.lent }
 
   verdict_same : work_due_verdict o p.tiles as_choice ≡ list_due_verdict o p.tiles c
   verdict_same = rw (or-false (is_tile_list_short c.lent.list))
@@ -94,15 +91,15 @@ module _ {o : OpenRow} {p : Past} {h : Held} (is_open : IsOpen o) (holds : Holds
   told (refused number) = 0
   told (given n) = n
 
-  after_list : (ls : List HeldList) {s : State} {back : ListLent} (ans : ListAnswer) (v : Judgement) → list_due_verdict o p.tiles c ≡ v
-      → list_answer ans ≡ (out v).answer → s ≡ (out v).state → back ≡ (out v).lent → HoldsLists o p.tiles ls
+  after_list : (ls : List HeldList) {s : State} {back : ListLent} (ans : Result ℕ Refusal) (v : Judgement) → list_due_verdict o p.tiles c ≡ v
+      → given_or_refused ans ≡ (out v).answer → s ≡ (out v).state → back ≡ (out v).lent → HoldsLists o p.tiles ls
       → HoldsAll o (past_work v p) (held_with (row_after ans s h c.queue back) (lists_after ans c.tile back.list ls))
   unfolding listing_out
-  after_list ls (listed.Refused k) (refuse n) e ea es el hl =
+  after_list ls (Err k) (refuse n) e ea es el hl =
       record { row = record { state = es; inside = holds.inside; queue = holds.queue; taken_long = holds.taken_long; took = holds.took }; lists = hl }
-  after_list ls (listed.Refused k) pass e ea es el hl = absurd (let z : ◌≡◌ {A = ℕ} 0 1 = cc in omega arith)
-  after_list ls (listed.Listed m) (refuse n) e ea es el hl = absurd (let z : ◌≡◌ {A = ℕ} 0 1 = cc in omega arith)
-  after_list ls (listed.Listed m) pass e ea es el hl =
+  after_list ls (Err k) pass e ea es el hl = absurd (let z : ◌≡◌ {A = ℕ} 0 1 = cc in omega arith)
+  after_list ls (Ok m) (refuse n) e ea es el hl = absurd (let z : ◌≡◌ {A = ℕ} 0 1 = cc in omega arith)
+  after_list ls (Ok m) pass e ea es el hl =
       record { row = past_row e es (ap (λ (b : ListLent). b.queue) el); lists = (past_list e (ap told ea) (ap (λ (b : ListLent). b.list) el), hl) }
 
   pub right_list : (ls : List HeldList) {r : TileListed} {back : ListLent} → ListsTile (listing_of (list_on o h c) c.lent) r back → HoldsLists o p.tiles ls
@@ -122,15 +119,15 @@ listed_in (refused number) = 0
 listed_in (given t) = t.listed
 
 module _ {o : OpenRow} (is_open : IsOpen o) (p : Past) (c : WorkChoice) (ls : List HeldList) (hl : HoldsLists o p.tiles ls) where
-  work_list : {back : WorkLent} (ans : WorkAnswer) (v : Judgement) → work_due_verdict o p.tiles c ≡ v
+  work_list : {back : WorkLent} (ans : Result TileDone Refusal) (v : Judgement) → work_due_verdict o p.tiles c ≡ v
       → work_answer ans ≡ (work_out v (says_on o p.tiles c) (state_on o p) c.kept c.lent).answer
       → back ≡ (work_out v (says_on o p.tiles c) (state_on o p) c.kept c.lent).lent
       → HoldsLists o (past_work v p).tiles (lists_worked ans c.tile (lent_part back).list ls)
   unfolding work_out
-  work_list (worked.Refused k) (refuse n) e ea el = hl
-  work_list (worked.Refused k) pass e ea el = absurd (let z : ◌≡◌ {A = ℕ} 0 1 = cc in omega arith)
-  work_list (worked.Done d) (refuse n) e ea el = absurd (let z : ◌≡◌ {A = ℕ} 0 1 = cc in omega arith)
-  work_list (worked.Done d) pass e ea el =
+  work_list (Err k) (refuse n) e ea el = hl
+  work_list (Err k) pass e ea el = absurd (let z : ◌≡◌ {A = ℕ} 0 1 = cc in omega arith)
+  work_list (Ok d) (refuse n) e ea el = absurd (let z : ◌≡◌ {A = ℕ} 0 1 = cc in omega arith)
+  work_list (Ok d) pass e ea el =
       let below = list_verdict (table_on o) (layers_on o p.tiles) in
       let six = unless (tag_out_of_range c.kept) 6 below in
       let one = passed (is_queue_short c.lent.queue || is_list_short c.lent.list) 1 (unless (is_not_due o p.tiles c.tile) 2 six) e in

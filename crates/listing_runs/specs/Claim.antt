@@ -1,7 +1,7 @@
 -- Demand 3 over runs with listings and decidings: every call gives what is due of it, worked from the whole row (specs/Due, and
 -- row_statements/specs/Due of works and paintings), and what the row alone says of every tile holds as before. Stands for 'what holds along a row holds for lists decided as
 -- the listing call left them'. proofs/Run proves it; specs/Example has a run that meets its premises.
-use Rattle.std.specs.Prelude.{◌≡◌, ◌∷◌, ◌<◌}
+use Rattle.std.specs.Prelude.{◌≡◌, ◌∷◌, ◌<◌, Ok}
 use Rattle.laws.specs.Prelude.{Bool, List, [], map, ℕ, suc, length, take, refused}
 use Rattle.refusals.specs.Refusal.{pass, refuse}
 use Rattle.segment_rows.specs.Rows.{Words}
@@ -14,7 +14,6 @@ use Rattle.row_statements.specs.Run.{open_row, held_first}
 use Rattle.row_statements.specs.Claim as row
 use Rattle.row_statements.specs.Claim.{TileFacts}
 use Rattle.row_statements.specs.declared.RowState.{RowState}
-use Rattle.row_statements.specs.declared.Opened.TheVariants as opened
 use Rattle.listing_statements.specs.Listing.{ListCall, ListLent, entries_from, listing_verdict, ListsTile}
 use Rattle.listing_statements.specs.Deciding.{deciding_of, DecidesTile}
 use Rattle.listing_statements.specs.declared.TileListed.{TileListed}
@@ -72,6 +71,6 @@ abbrev pub ListingClaim : Type 0
 ListingClaim =
     (c : OpenCall) (lent back : Columns) (s : RowState) (es : List RowCall) (h : HeldAll) →
     Words c.row →
-    OpensRow (open_of c lent) (opened.Row s) back →
+    OpensRow (open_of c lent) (Ok s) back →
     RowCalls (open_row c) (held_with (held_first s back) []) es h →
     ((n : ℕ) → TileFacts (open_row c) n) × AllCallsRight (open_row c) at_first es

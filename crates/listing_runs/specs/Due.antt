@@ -1,14 +1,13 @@
 -- What is due of a listing and of a deciding after an accepted opening, worked from the opening on, as row_statements/specs/Due has it of works and
 -- paintings: by the row, the table, the row's tiles, which earlier calls were due to be accepted, and the caller's own choices. No answer, list, queue
 -- or state that a call gave back is looked at.
-use Rattle.std.specs.Prelude.{◌||◌, ◌-◌}
+use Rattle.std.specs.Prelude.{◌||◌, ◌-◌, Option}
 use Rattle.laws.specs.Prelude.{Bool, List, ℕ, suc, ltb, ℤ, length, plus}
 use Rattle.refusals.specs.Refusal.{Judgement, pass, unless}
 use Rattle.styling.specs.declared.Color.{Color}
 use Rattle.cached_tile.specs.Kept.{tag_out_of_range}
 use Rattle.cached_tile.specs.declared.kept.Kept as kept
 use Rattle.pass_statements.specs.Decide.{Outcome}
-use Rattle.layer_workbench.specs.declared.PreviousClear.{PreviousClear}
 use Rattle.row_statements.specs.Lent.{Columns, is_queue_short}
 use Rattle.row_statements.specs.TileWork.{list_verdict}
 use Rattle.row_statements.specs.Due.{OpenRow, Past, table_on, queue_on, layers_on, state_on, is_not_due, outcome_on}
@@ -41,7 +40,7 @@ pub record DecideChoice : Type 0 where
   pub list : TileList
   pub kept : kept.Kept
   pub clear : Color
-  pub previous : PreviousClear
+  pub previous : Option Color
   pub unmasked : List Bool
 
 -- how many tiles of the row lie before the one that is named

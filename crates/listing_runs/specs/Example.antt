@@ -2,13 +2,12 @@
 -- listing, late, twice and out of order, a refused deciding, a work, and a deciding from the list that it left; and between them a work, a painting and a
 -- listing with another row, table and queue, and decidings of another list. proofs/Example has it; proofs/Runs has that every list of choices is that of
 -- some run.
-use Rattle.std.specs.Prelude.{◌≡◌, ◌&&◌, ◌∷◌, ◌++◌, ◌+◌}
+use Rattle.std.specs.Prelude.{◌≡◌, ◌&&◌, ◌∷◌, ◌++◌, ◌+◌, None, Ok}
 use Rattle.laws.specs.Prelude.{Bool, not, cond, List, [], ℕ, ltb, ℤ, pos, lt_z, plus}
 use Rattle.refusals.specs.Refusal.{Judgement, pass, refuse}
 use Rattle.segment_rows.specs.Rows.{Words}
 use Rattle.cached_tile.specs.Kept.{no_tile}
 use Rattle.cached_tile.specs.declared.kept.Kept as kept
-use Rattle.layer_workbench.specs.declared.PreviousClear.TheVariants.{Absent}
 use Rattle.row_statements.specs.Lent.{Columns, LentTable}
 use Rattle.row_statements.specs.State.{State}
 use Rattle.row_statements.specs.Opening.{OpenCall, open_of, OpensRow}
@@ -19,7 +18,6 @@ use Rattle.row_statements.specs.Run.{open_row, held_first, Event}
 use Rattle.row_statements.specs.Example as example
 use Rattle.row_statements.specs.Example.{work_at, paint_at, if_turned_down, row, table, black, room, tagged, work_of_tile, paint_in_tile, other_row, other_table}
 use Rattle.row_statements.specs.declared.RowState.{RowState}
-use Rattle.row_statements.specs.declared.Opened.TheVariants as opened
 use Rattle.listing_statements.specs.Listing.{TileList, ListCall, tile_list, list_call, list_lent, listing_verdict}
 use Rattle.listing_statements.specs.Deciding.{DecideCall, decide_call, deciding_verdict}
 use Rattle.listing_runs.specs.Due.{ListChoice, list_due_verdict, DecideChoice, decide_due_verdict}
@@ -95,7 +93,7 @@ listing tile n = CallChoice.list (list_of_tile tile n)
 
 abbrev deciding : ℤ → kept.Kept → CallChoice
 deciding tile k =
-    CallChoice.decide (record { tile = tile; list = three_columns; kept = k; clear = black; previous = Absent; unmasked = (example.list).unmasked })
+    CallChoice.decide (record { tile = tile; list = three_columns; kept = k; clear = black; previous = None; unmasked = (example.list).unmasked })
 
 -- with another row, with another table, with another queue
 abbrev others_of : (List ℕ → LentTable → CallChoice) → List CallChoice
@@ -103,7 +101,7 @@ others_of call = call other_row table ∷ call row other_table ∷ call row tabl
 
 -- n entries of a list of layer 0 at all places, by a table
 abbrev deciding_other : LentTable → ℕ → CallChoice
-deciding_other by n = CallChoice.other_decide (decide_call three_columns n by no_tile black Absent) (example.list).unmasked
+deciding_other by n = CallChoice.other_decide (decide_call three_columns n by no_tile black None) (example.list).unmasked
 
 -- a painting before the first listing; tile 0 listed with a queue of 255 entries, and then rightly; the clip painted at once; tile 1 listed with another
 -- row, table and queue, and then rightly; tile 0 decided with tag 4, and then rightly; another list decided by another table, then two entries and one
@@ -126,7 +124,7 @@ pub record CallsRan : Type 0 where
   pub after : HeldAll
   -- the claim's premises
   pub words : Words three_tiles.row
-  pub opens : OpensRow (open_of three_tiles (room 256)) (opened.Row state) back
+  pub opens : OpensRow (open_of three_tiles (room 256)) (Ok state) back
   pub runs : RowCalls (open_row three_tiles) (held_with (held_first state back) []) events after
   -- which calls are refused, and by which number
   pub dues : call_dues_of (open_row three_tiles) at_first events

@@ -1,7 +1,7 @@
 -- W-208 at deciding: what the lent table says of 'unchanged' plays no part, since the list has its own marks; and the smallest frames in which a
 -- changed clip repaints, and one in which a changed draw under the cover does not. Stands for 'every pass goes by that mark' and for 'the full-cover
 -- pass counts a tile as changed when any listed clip layer is changed, masked off or not'.
-use Rattle.std.specs.Prelude.{◌≡◌, ◌∷◌}
+use Rattle.std.specs.Prelude.{◌≡◌, ◌∷◌, Option, Some}
 use Rattle.laws.specs.Prelude.{Bool, true, false, List, [], map, ℕ, of_bits, binary32, pos, length, replicate}
 use Rattle.styling.specs.declared.BlendMode.TheVariants.{Over}
 use Rattle.styling.specs.declared.Color.{Color}
@@ -15,9 +15,7 @@ use Rattle.pass_statements.specs.Decide.{outcome_of}
 use Rattle.pass_statements.specs.Decision.{TileDecision, none, solid}
 use Rattle.pass_statements.specs.Entry.{Entry}
 use Rattle.pass_statements.specs.Item.{items_of}
-use Rattle.pass_statements.specs.declared.unchanged.PreviousCount.TheVariants.{Kept}
 use Rattle.layer_workbench.specs.Work.{outcome_by_entries}
-use Rattle.layer_workbench.specs.declared.PreviousClear.{PreviousClear}
 
 -- a layer of which the table says otherwise whether it is unchanged
 abbrev pub restated : (Layer → Bool) → Layer → Layer
@@ -26,7 +24,7 @@ restated says l = record { id = l.id; props = l.props; is_unchanged = says l }
 -- by any other table that differs in these words alone the outcome is the same
 abbrev pub MarksAlone : Type 0
 MarksAlone =
-    (says : Layer → Bool) (table : List Layer) (k : kept.Kept) (clear : Color) (previous : PreviousClear) (entries : List Entry) →
+    (says : Layer → Bool) (table : List Layer) (k : kept.Kept) (clear : Color) (previous : Option Color) (entries : List Entry) →
     outcome_by_entries (map (restated says) table) k clear previous entries ≡ outcome_by_entries table k clear previous entries
 
 -- ---- the second of two frames: as many layers were listed in the first, and the clear colour is the same
@@ -51,7 +49,7 @@ abbrev half : ℕ → Bool → Entry
 half id changed = record { id = id; cover = replicate 16 (pos 0); segments = true; changed = changed }
 
 abbrev second : List Layer → List Entry → TileDecision
-second table entries = (outcome_of black true (Kept (length entries)) (items_of table entries)).decision
+second table entries = (outcome_of black true (Some (length entries)) (items_of table entries)).decision
 
 pub record MarkedFrames : Type 0 where
   -- a clip was widened until it is full, and is masked off; the opaque draw that it cut is unchanged

@@ -1,20 +1,18 @@
 -- A run of listings, decidings, works and paintings, refused ones included, as the calls went. The premise of each step is the operation's own contract, at
 -- what the caller holds, chooses and lends. Beside the state and the queues the caller holds the lists that accepted listings and works left, one a
 -- tile, and a deciding names one of them by its tile: it may come late, twice or out of order.
-use Rattle.std.specs.Prelude.{◌≡◌, ◌⊎◌, ◌∷◌}
+use Rattle.row_statements.specs.declared.TileDone.{TileDone}
+use Rattle.refusals.specs.declared.Refusal.{Refusal}
+use Rattle.std.specs.Prelude.{◌≡◌, ◌⊎◌, ◌∷◌, Result, Ok, Err}
 use Rattle.laws.specs.Prelude.{Bool, List, [], ℕ, ℤ, take}
 use Rattle.refusals.specs.Refusal.{refuse}
 use Rattle.row_statements.specs.Lent.{Columns}
 use Rattle.row_statements.specs.State.{State, state_in}
 use Rattle.row_statements.specs.Due.{OpenRow}
 use Rattle.row_statements.specs.Run.{Held, SameCarries, Event, Step}
-use Rattle.row_statements.specs.declared.WorkAnswer.{WorkAnswer}
-use Rattle.row_statements.specs.declared.WorkAnswer.TheVariants as worked
 use Rattle.listing_statements.specs.Listing.{TileList, ListCall, ListLent, entries_from, is_tile_list_short, list_call, listing_verdict, listing_of, ListsTile}
 use Rattle.listing_statements.specs.Deciding.{DecideCall, decide_call, deciding_of, DecidesTile}
 use Rattle.listing_statements.specs.Succession.{lent_part}
-use Rattle.listing_statements.specs.declared.ListAnswer.{ListAnswer}
-use Rattle.listing_statements.specs.declared.ListAnswer.TheVariants as listed
 use Rattle.listing_statements.specs.declared.TileListed.{TileListed}
 use Rattle.listing_statements.specs.declared.TileDecided.{TileDecided}
 use Rattle.listing_runs.specs.Due.{ListChoice, DecideChoice}
@@ -65,18 +63,18 @@ abbrev pub decide_on : OpenRow → HeldList → DecideChoice → DecideCall
 decide_on o l c = decide_call c.list l.count o.table c.kept c.clear c.previous
 
 -- what the caller holds after a listing, by the answer that it got
-abbrev pub row_after : ListAnswer → State → Held → Columns → ListLent → Held
-row_after (listed.Refused r) s h queue back = record { state = s; queue = h.queue; taken = h.taken }
-row_after (listed.Listed n) s h queue back = record { state = s; queue = back.queue; taken = queue }
+abbrev pub row_after : Result ℕ Refusal → State → Held → Columns → ListLent → Held
+row_after (Err r) s h queue back = record { state = s; queue = h.queue; taken = h.taken }
+row_after (Ok n) s h queue back = record { state = s; queue = back.queue; taken = queue }
 
-abbrev pub lists_after : ListAnswer → ℤ → TileList → List HeldList → List HeldList
-lists_after (listed.Refused r) tile lent ls = ls
-lists_after (listed.Listed n) tile lent ls = record { tile = tile; count = n; list = lent } ∷ ls
+abbrev pub lists_after : Result ℕ Refusal → ℤ → TileList → List HeldList → List HeldList
+lists_after (Err r) tile lent ls = ls
+lists_after (Ok n) tile lent ls = record { tile = tile; count = n; list = lent } ∷ ls
 
 -- and after a work
-abbrev pub lists_worked : WorkAnswer → ℤ → TileList → List HeldList → List HeldList
-lists_worked (worked.Refused r) tile lent ls = ls
-lists_worked (worked.Done d) tile lent ls = record { tile = tile; count = d.listed; list = lent } ∷ ls
+abbrev pub lists_worked : Result TileDone Refusal → ℤ → TileList → List HeldList → List HeldList
+lists_worked (Err r) tile lent ls = ls
+lists_worked (Ok d) tile lent ls = record { tile = tile; count = d.listed; list = lent } ∷ ls
 
 abbrev pub lists_past : Event → List HeldList → List HeldList
 lists_past (Event.work c r back) ls = lists_worked r.answer c.tile (lent_part back).list ls

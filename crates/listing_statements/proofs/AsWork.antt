@@ -1,10 +1,9 @@
 -- A listing is the work on a tile that keeps nothing, without its decision: what is known of works is then known of listings. Assumes nothing.
-use Rattle.std.specs.Prelude.{◌≡◌, ◌||◌}
+use Rattle.std.specs.Prelude.{◌≡◌, ◌||◌, None}
 use Rattle.laws.proofs.Prelude.{refl, ap, sym, ◌∙◌, Bool, true, false, ℕ, binary32, of_bits, replicate, Answer, refused, given}
 use Rattle.refusals.specs.Refusal.{Judgement, pass, refuse, and_then}
 use Rattle.styling.specs.declared.Color.{Color}
 use Rattle.cached_tile.specs.Kept.{no_tile}
-use Rattle.layer_workbench.specs.declared.PreviousClear.TheVariants.{Absent}
 use Rattle.row_statements.specs.Lent.{list_columns}
 use Rattle.row_statements.specs.State.{State}
 use Rattle.row_statements.specs.TileWork.{WorkCall, WorkLent, WorkGiven, TileAnswer, TileSays, work_call, work_lent, args_verdict, layers_verdict, says_for, work_out, work_of}
@@ -15,7 +14,7 @@ abbrev pub no_color : Color
 no_color = record { r = of_bits binary32 0; g = of_bits binary32 0; b = of_bits binary32 0; a = of_bits binary32 0 }
 
 abbrev pub as_work : ListCall → WorkCall
-as_work c = work_call c.state c.tile c.row c.table no_tile no_color Absent c.queue
+as_work c = work_call c.state c.tile c.row c.table no_tile no_color None c.queue
 
 abbrev pub as_lent : ListLent → WorkLent
 as_lent lent = work_lent lent.queue (list_columns lent.list.ids lent.list.covers lent.list.flags (replicate 256 false))

@@ -2,7 +2,8 @@
 -- 4 to 8, the lowest that applies; a refusal says its number and leaves the cached tile and the mask column as they were. Else the decision, the skips
 -- and the masks are those of the passes, and the cached tile is updated as by a work. There is no state, no row and no queue, and no list is
 -- written. 9 is not judged: a cover is full or not whatever its bytes are. Stands for W-206's deciding call.
-use Rattle.std.specs.Prelude.{◌≡◌, ◌||◌}
+use Rattle.refusals.specs.declared.Refusal.{Refusal}
+use Rattle.std.specs.Prelude.{◌≡◌, ◌||◌, Option, Result, Ok, Err}
 use Rattle.laws.specs.Prelude.{Bool, not, List, ℕ, ltb, length, take, Answer, refused, given, is_given, all, over}
 use Rattle.refusals.specs.Refusal.{Judgement, pass, refuse, unless, number_of}
 use Rattle.styling.specs.Ascending.{strictly_ascends}
@@ -11,14 +12,13 @@ use Rattle.styling.specs.declared.Layer.{Layer}
 use Rattle.layer_table.specs.Lookup.{lookup}
 use Rattle.cached_tile.specs.Kept.{tag_out_of_range}
 use Rattle.cached_tile.specs.declared.kept.Kept as kept
+use Rattle.pass_statements.specs.declared.Index.{Index}
+use Rattle.pass_statements.specs.declared.decide.Decision.{Decision}
 use Rattle.pass_statements.specs.Decision.{TileDecision, decision_in}
 use Rattle.pass_statements.specs.Decide.{Outcome}
 use Rattle.layer_workbench.specs.Work.{outcome_by_entries, kept_after}
-use Rattle.layer_workbench.specs.declared.PreviousClear.{PreviousClear}
 use Rattle.row_statements.specs.Lent.{LentTable, layers_of, is_lent_short, is_lent_table}
 use Rattle.listing_statements.specs.Listing.{TileList, entries_from, is_tile_list_short}
-use Rattle.listing_statements.specs.declared.DecideAnswer.{DecideAnswer}
-use Rattle.listing_statements.specs.declared.DecideAnswer.TheVariants.{Refused, Decided}
 use Rattle.listing_statements.specs.declared.TileDecided.{TileDecided}
 
 -- what a deciding is called with, beside the mask column that it may write: `count` entries of the list count
@@ -28,9 +28,9 @@ pub record DecideCall : Type 0 where
   pub table : LentTable
   pub kept : kept.Kept
   pub clear : Color
-  pub previous : PreviousClear
+  pub previous : Option Color
 
-abbrev pub decide_call : TileList → ℕ → LentTable → kept.Kept → Color → PreviousClear → DecideCall
+abbrev pub decide_call : TileList → ℕ → LentTable → kept.Kept → Color → Option Color → DecideCall
 decide_call list count table k clear previous = record { list = list; count = count; table = table; kept = k; clear = clear; previous = previous }
 
 -- ---- the verdict
@@ -85,9 +85,9 @@ deciding_of c unmasked = deciding_out (deciding_verdict c unmasked) (decided_out
 -- ---- the promise
 
 -- the cases of the code's answer
-abbrev pub decide_answer : DecideAnswer → Answer DecideSays
-decide_answer (Refused r) = refused (number_of r)
-decide_answer (Decided d skipped) = given (record { decision = decision_in d; skipped = skipped.0 })
+abbrev pub decide_answer : Result (Decision × Index) Refusal → Answer DecideSays
+decide_answer (Err r) = refused (number_of r)
+decide_answer (Ok (d, skipped)) = given (record { decision = decision_in d; skipped = skipped.0 })
 
 pub record DecidesTile (g : DecideGiven) (r : TileDecided) (back : List Bool) : Type 0 where
   pub answer : decide_answer r.answer ≡ g.answer

@@ -1,17 +1,16 @@
 -- The refusals of a deciding at their edges. Stands for W-206, 'deciding judges 1 and 4 to 8'.
-use Rattle.std.specs.Prelude.{◌≡◌, ◌∷◌}
+use Rattle.std.specs.Prelude.{◌≡◌, ◌∷◌, None}
 use Rattle.laws.specs.Prelude.{Bool, false, List, ℕ, pos, replicate, tabulate}
 use Rattle.refusals.specs.Refusal.{pass, refuse}
 use Rattle.cached_tile.specs.Kept.{no_tile}
 use Rattle.cached_tile.specs.declared.kept.Kept as kept
-use Rattle.layer_workbench.specs.declared.PreviousClear.TheVariants.{Absent}
 use Rattle.row_statements.specs.Example.{table, black, tagged}
 use Rattle.listing_statements.specs.Listing.{tile_list}
 use Rattle.listing_statements.specs.Deciding.{DecideCall, decide_call, deciding_verdict}
 
 -- a list of n entries with these ids, of the layers 1 to 4
 abbrev list_of : List ℕ → ℕ → kept.Kept → DecideCall
-list_of ids n k = decide_call (tile_list ids (replicate 4096 (pos 0)) (replicate 512 false)) n table k black Absent
+list_of ids n k = decide_call (tile_list ids (replicate 4096 (pos 0)) (replicate 512 false)) n table k black None
 
 abbrev masks : ℕ → List Bool
 masks n = replicate n false

@@ -1,16 +1,14 @@
 -- What the functions below listing ask and give.
-use Rattle.std.specs.Prelude.{◌≡◌, ◌*◌, ◌≤◌, ◌+◌}
+use Rattle.std.specs.Prelude.{◌≡◌, ◌*◌, ◌≤◌, ◌+◌, None, Ok, Err}
 use Rattle.laws.specs.Prelude.{List, Bool, ℕ, ℤ, length, plus, minus}
 use Rattle.refusals.specs.declared.Refusal.{Refusal}
 use Rattle.segment_rows.specs.Search.{tile_part}
 use Rattle.layer_table.specs.Table.{Table}
 use Rattle.tile_layers.specs.InnerWalk.{Walks}
 use Rattle.layer_carrying.specs.Carrying.{handed_on}
-use Rattle.painter.specs.declared.Clip.TheVariants.{Absent}
 use Rattle.row_statements.specs.Lent.{layers_of}
 use Rattle.row_statements.specs.declared.RowState.{RowState}
 use Rattle.listing_statements.specs.Listing.{ListCall, ListLent, ListGiven, listed_by, listed_verdict, listing_out}
-use Rattle.listing_statements.specs.declared.ListAnswer.TheVariants.{Refused, Listed as Told}
 use Rattle.listing_statements.specs.declared.TileListed.{TileListed}
 
 -- what is left of a listing once 1 to 5 pass: judged by 7 to 9, and then done
@@ -18,13 +16,13 @@ abbrev pub listed_with : ListCall → ListLent → ListGiven
 listed_with c lent = listing_out (listed_verdict c) (layers_of c.table) (listed_by c) (handed_on (layers_of c.table) (listed_by c)) c.state lent
 
 abbrev pub refused_listing : RowState → Refusal → TileListed
-refused_listing s r = record { state = s; answer = Refused r }
+refused_listing s r = record { state = s; answer = Err r }
 
 abbrev pub done_listing : RowState → ℕ → ℕ → TileListed
 done_listing s n left =
     record {
-      state = record { tile_y = s.tile_y; from = s.from; to = s.to; next = s.next + 1; left = left; taken = s.left; clip = Absent };
-      answer = Told n;
+      state = record { tile_y = s.tile_y; from = s.from; to = s.to; next = s.next + 1; left = left; taken = s.left; clip = None };
+      answer = Ok n;
     }
 
 -- room for 256 entries in a list, with two flags each, and in a queue

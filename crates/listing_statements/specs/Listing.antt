@@ -2,9 +2,10 @@
 -- leaves the state and every lent list as they were. Else the tile's layers stand in the three columns of the list, the carries past the tile in the
 -- queue handed on, and the state is the next one. No cached tile is touched, nothing is decided, and no mask column is lent. Stands for W-206's
 -- listing call.
-use Rattle.std.specs.Prelude.{◌≡◌, ◌||◌}
+use Rattle.refusals.specs.declared.Refusal.{Refusal}
+use Rattle.std.specs.Prelude.{◌≡◌, ◌||◌, Result, Ok, Err}
 use Rattle.laws.specs.Prelude.{Bool, List, ℕ, ℤ, length, Answer, refused, given, over}
-use Rattle.refusals.specs.Refusal.{Judgement, pass, refuse, and_then, number_of}
+use Rattle.refusals.specs.Refusal.{Judgement, pass, refuse, and_then, number_of, given_or_refused}
 use Rattle.segment_rows.specs.Search.{tile_part}
 use Rattle.queue_statements.specs.Queue.{Carry, ids_in, covers_in}
 use Rattle.styling.specs.declared.Layer.{Layer}
@@ -15,8 +16,6 @@ use Rattle.row_statements.specs.Lent.{Columns, LentTable, carries_in, is_queue_s
 use Rattle.row_statements.specs.State.{State, state_in, next_state, is_wrong_next}
 use Rattle.row_statements.specs.Conditions.{first_five}
 use Rattle.row_statements.specs.TileWork.{list_verdict}
-use Rattle.listing_statements.specs.declared.ListAnswer.{ListAnswer}
-use Rattle.listing_statements.specs.declared.ListAnswer.TheVariants.{Refused, Listed as Told}
 use Rattle.listing_statements.specs.declared.TileListed.{TileListed}
 
 -- ---- a tile's list as it is lent: layer ids, 16 incoming covers for each, and whether the layer has segments in the tile. The second flag of each
@@ -112,12 +111,7 @@ listing_of c lent = listing_out (listing_verdict c lent) (layers_of c.table) (li
 
 -- ---- the promise
 
--- the cases of the code's answer
-abbrev pub list_answer : ListAnswer → Answer ℕ
-list_answer (Refused r) = refused (number_of r)
-list_answer (Told n) = given n
-
 pub record ListsTile (g : ListGiven) (r : TileListed) (back : ListLent) : Type 0 where
-  pub answer : list_answer r.answer ≡ g.answer
+  pub answer : given_or_refused r.answer ≡ g.answer
   pub state : state_in r.state ≡ g.state
   pub lent_is : back ≡ g.lent

@@ -9,30 +9,16 @@ use pass_statements::decide::Decision;
 use refusals::Refusal;
 use row_statements::RowState;
 
-// What a listing answers: how many layers it listed, or why it is turned down.
-#[derive(Clone, Copy)]
-pub enum ListAnswer {
-    Refused(Refusal),
-    Listed(usize),
-}
-
 // The state after a listing, which a refusal leaves equal, and its answer.
 #[derive(Clone, Copy)]
 pub struct TileListed {
     pub state: RowState,
-    pub answer: ListAnswer,
-}
-
-// What a deciding answers: the decision and how many of the listed layers are skipped, or why it is turned down.
-#[derive(Clone, Copy)]
-pub enum DecideAnswer {
-    Refused(Refusal),
-    Decided(Decision, Index),
+    pub answer: Result<usize, Refusal>,
 }
 
 // The cached tile after a deciding, which a refusal leaves equal, and its answer.
 #[derive(Clone, Copy)]
 pub struct TileDecided {
     pub kept: Kept,
-    pub answer: DecideAnswer,
+    pub answer: Result<(Decision, Index), Refusal>,
 }

@@ -6,7 +6,8 @@ use Rattle.job_text_statements.specs.Job.{render}
 use Rattle.job_lines.specs.Rules.{segment_count}
 use Rattle.job_statements.specs.Read as reading
 use Rattle.job_statements.specs.Read.{has_room, job_outcome}
-use Rattle.load_statements.specs.Load.{Asked, load_of}
+use Rattle.load_statements.specs.declared.Asked.{Asked}
+use Rattle.load_statements.specs.Load.{load_of}
 use Rattle.load_statements.specs.Input.{AskedInRange}
 use Rattle.load_statements.proofs.Forming.{one_row_each, read_back}
 

@@ -11,7 +11,8 @@ use Rattle.segment_rows.proofs.Ascending.{from_intro}
 use Rattle.job_lines.specs.declared.segment.SegmentLine.{SegmentLine}
 use Rattle.job_statements.specs.Row.{segment_word, row_tile, row_words}
 use Rattle.load_statements.specs.Draw.{draw_at}
-use Rattle.load_statements.specs.Load.{Asked, slot_of, segment_from, load_segment, load_of}
+use Rattle.load_statements.specs.declared.Asked.{Asked}
+use Rattle.load_statements.specs.Load.{slot_of, segment_from, load_segment, load_of}
 use Rattle.load_statements.specs.Input.{AskedInRange}
 use Rattle.load_statements.specs.Opened.{load_row}
 use Rattle.load_statements.proofs.Slots.{slots_ascend}

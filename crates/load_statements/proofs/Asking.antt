@@ -1,16 +1,17 @@
 -- Reading the line is the inverse of printing it: `ask` takes exactly the lines of three numbers in range.
 -- Assumes nothing.
 use Rattle.std.specs.Prelude.{◌≡◌, ◌&&◌, ◌∷◌, ◌++◌, ◌^◌, ◌≤◌, ◌<◌}
-use Rattle.laws.proofs.Prelude.{refl, sym, ap, ◌∙◌, List, [], Option, some, none, ℕ, arith, eq-eqb, eqb-true}
+use Rattle.laws.proofs.Prelude.{refl, sym, ap, ◌∙◌, List, [], Option, Some, None, ℕ, arith, eq-eqb, eqb-true}
 use Rattle.laws.proofs.Prelude.{lt-ltb, ltb-true, eqb, ltb, left, right}
-use mathlib.Core.Option.{some-injective}
+use Rattle.std.proofs.lemmas.Option.{same_Some}
 use Rattle.decimal.specs.Decimal.{decimal, Stops}
 use Rattle.decimal.specs.Parse.{Parsed, parsed, failed, parseℕ}
 use Rattle.decimal.proofs.Steps.{cases}
 use Rattle.decimal.proofs.Laws as numbers
 use Rattle.decimal.proofs.Laws.{parseℕ_complete, parseℕ_sound}
 use Rattle.lines.specs.Text.{line_text}
-use Rattle.load_statements.specs.Load.{Asked, asked}
+use Rattle.load_statements.specs.declared.Asked.{Asked}
+use Rattle.load_statements.specs.Load.{asked}
 use Rattle.load_statements.specs.Input.{Asks, line_ended, parse_field, after_count, after_tiles, after_seed, ask}
 
 -- ---- a field
@@ -50,7 +51,7 @@ field_sound limit end s n t h e = by (parseℕ limit s) refl e
 
 -- ---- the line
 
-pub ask_complete : (text : List ℕ) (a : Asked) → Asks text a → ask text ≡ some a
+pub ask_complete : (text : List ℕ) (a : Asked) → Asks text a → ask text ≡ Some a
 unfolding ask line_text
 ask_complete text a h =
     let count = field_complete 513 10 a.count [] (omega (arith, h.range.count)) refl in
@@ -58,7 +59,7 @@ ask_complete text a h =
     let seed = field_complete (2 ^ 32) 32 a.seed (decimal a.tiles ++ (32 ∷ (decimal a.count ++ (10 ∷ [])))) h.range.seed refl in
     rw (h.printed, seed, tiles, count, lt-ltb 0 a.tiles h.range.tiles.0, lt-ltb 0 a.count h.range.count.0)
 
-never : {P : Type 0} {a : Asked} → ◌≡◌ {A = Option Asked} none (some a) → P
+never : {P : Type 0} {a : Asked} → ◌≡◌ {A = Option Asked} None (Some a) → P
 never q = let z : ◌≡◌ {A = ℕ} 0 1 = cc in absurd (omega arith)
 
 -- the numbers that the fields have, and the line that they print to
@@ -75,29 +76,29 @@ asks {text} {t} {u} {seed} {tiles} {count} {a} p q r h l e =
           ∙ ap (λ (x : List ℕ). decimal seed ++ (32 ∷ (decimal tiles ++ (32 ∷ x)))) r.text;
     })
 
-pub ask_sound : (text : List ℕ) (a : Asked) → ask text ≡ some a → Asks text a
+pub ask_sound : (text : List ℕ) (a : Asked) → ask text ≡ Some a → Asks text a
 unfolding ask
 ask_sound text a e = by_seed (parse_field (2 ^ 32) 32 text) refl e
   where
     by_count : {seed tiles : ℕ} {t u : List ℕ} → FieldIs (2 ^ 32) 32 text seed t → FieldIs 4096 32 t tiles u → (g : Parsed ℕ) → parse_field 513 10 u ≡ g
-        → after_count seed tiles g ≡ some a → Asks text a
+        → after_count seed tiles g ≡ Some a → Asks text a
     by_count p q failed r f = never f
     by_count p q (parsed count (b ∷ v)) r f = never f
     by_count {seed} {tiles} {t} {u} p q (parsed count []) r f =
         cases (ltb 0 tiles && ltb 0 count)
         (λ c.
         asks p q (field_sound 513 10 u count [] (omega arith) r) (ltb-true 0 tiles (left (ltb 0 tiles) (ltb 0 count) c)) (ltb-true 0 count (right (ltb 0 tiles) (ltb 0 count) c))
-        (some-injective _ _ (rw c at f)))
+        (same_Some _ _ (rw c at f)))
         (λ c. never (rw c at f))
 
-    by_tiles : {seed : ℕ} {t : List ℕ} → FieldIs (2 ^ 32) 32 text seed t → (g : Parsed ℕ) → parse_field 4096 32 t ≡ g → after_tiles seed g ≡ some a → Asks text a
+    by_tiles : {seed : ℕ} {t : List ℕ} → FieldIs (2 ^ 32) 32 text seed t → (g : Parsed ℕ) → parse_field 4096 32 t ≡ g → after_tiles seed g ≡ Some a → Asks text a
     by_tiles p failed q f = never f
     by_tiles {t = t} p (parsed tiles u) q f = by_count p (field_sound 4096 32 t tiles u (omega arith) q) (parse_field 513 10 u) refl f
 
-    by_seed : (g : Parsed ℕ) → parse_field (2 ^ 32) 32 text ≡ g → after_seed g ≡ some a → Asks text a
+    by_seed : (g : Parsed ℕ) → parse_field (2 ^ 32) 32 text ≡ g → after_seed g ≡ Some a → Asks text a
     by_seed failed p f = never f
     by_seed (parsed seed t) p f = by_tiles (field_sound (2 ^ 32) 32 text seed t (omega arith) p) (parse_field 4096 32 t) refl f
 
 -- a line that is not read is no load's
-pub refused : (text : List ℕ) → ask text ≡ none → (a : Asked) → Asks text a → ⊥
+pub refused : (text : List ℕ) → ask text ≡ None → (a : Asked) → Asks text a → ⊥
 refused text e a h = never (sym e ∙ ask_complete text a h)

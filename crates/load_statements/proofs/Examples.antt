@@ -1,7 +1,7 @@
 -- Draws, lines and a text, computed: document 02's first draw of seed 0 and those after it, loads of few segments, and lines at the edges.
 -- Assumes nothing.
 use Rattle.std.specs.Prelude.{◌≡◌, ◌∷◌}
-use Rattle.laws.proofs.Prelude.{refl, Bool, true, false, not, List, [], some, none, ℕ, suc, tabulate, all}
+use Rattle.laws.proofs.Prelude.{refl, Bool, true, false, not, List, [], Some, None, ℕ, suc, tabulate, all}
 use Rattle.decimal.specs.Decimal.{decimal, decimal_in}
 use Rattle.decimal.specs.Parse.{parseℕ, more_digits}
 use Rattle.lines.specs.Bytes.{bytes}
@@ -9,7 +9,8 @@ use Rattle.lines.specs.Text.{line_text, lines_text, block_text}
 use Rattle.job_text_statements.specs.Text.{blocks_text}
 use Rattle.job_text_statements.specs.Job.{segment_values, render}
 use Rattle.load_statements.specs.Draw.{next, state_after, draw_at}
-use Rattle.load_statements.specs.Load.{Asked, asked, load_layer, slot_of, segment_from, load_segment, load_of}
+use Rattle.load_statements.specs.declared.Asked.{Asked}
+use Rattle.load_statements.specs.Load.{asked, load_layer, slot_of, segment_from, load_segment, load_of}
 use Rattle.load_statements.specs.Input.{parse_field, ask}
 use Rattle.load_statements.specs.Answer.{load_answer_text}
 
@@ -40,7 +41,7 @@ one = refl
 -- ---- lines at the edges, and lines that ask for no load
 
 pub is_asked : List ℕ → Bool
-is_asked s = elim (ask s) [ some a ↦ true | none ↦ false ]
+is_asked s = elim (ask s) [ Some a ↦ true | None ↦ false ]
 
 pub good : List (List ℕ)
 good = bytes "0 1 1\n" ∷ bytes "4294967295 4095 512\n" ∷ []

@@ -7,7 +7,8 @@ use Rattle.decimal.proofs.Print.{length_at_most}
 use Rattle.lines.specs.Text.{line_text}
 use Rattle.job_text_statements.specs.Job.{head_values, layer_values, segment_values}
 use Rattle.load_statements.specs.Draw.{draw_at}
-use Rattle.load_statements.specs.Load.{Asked, load_head, load_layer, slot_of, segment_from, load_segment}
+use Rattle.load_statements.specs.declared.Asked.{Asked}
+use Rattle.load_statements.specs.Load.{load_head, load_layer, slot_of, segment_from, load_segment}
 use Rattle.load_statements.specs.Input.{AskedInRange}
 use Rattle.load_statements.proofs.Slots.{slot_within}
 

@@ -1,7 +1,7 @@
 -- The job of a load is well formed: its lines, its counts and its length are those of a job text, and the rules hold.
 -- Assumes nothing.
 use Rattle.std.specs.Prelude.{◌≡◌, ◌∷◌, ◌*◌, ◌%◌, ◌≤◌, ◌<◌, ◌-ℤ◌}
-use Rattle.laws.proofs.Prelude.{refl, ap, Bool, true, List, [], map, append-nil, some, ℕ, zero, suc, arith, le-leb, ℤ}
+use Rattle.laws.proofs.Prelude.{refl, ap, Bool, true, List, [], map, append-nil, Some, ℕ, zero, suc, arith, le-leb, ℤ}
 use Rattle.laws.proofs.Prelude.{pos, length, length-append, length-map, plus, tabulate, all, both, whole, length_tabulate}
 use native.Mathlib.Nat.{mul-suc}
 use Rattle.layer_table.proofs.Listed.{map_tabulate}
@@ -13,7 +13,8 @@ use Rattle.job_text_statements.specs.Job.{head_values, layer_values, segment_val
 use Rattle.job_text_statements.specs.Parse.{parse}
 use Rattle.job_text_statements.proofs.Laws.{complete}
 use Rattle.load_statements.specs.Draw.{draw_at}
-use Rattle.load_statements.specs.Load.{Asked, load_head, load_layer, segment_from, load_segment, load_of}
+use Rattle.load_statements.specs.declared.Asked.{Asked}
+use Rattle.load_statements.specs.Load.{load_head, load_layer, segment_from, load_segment, load_of}
 use Rattle.load_statements.specs.Input.{AskedInRange}
 use Rattle.load_statements.proofs.Fields.{slot_small, cover_small, head_long, layer_long, segment_long}
 use Rattle.load_statements.proofs.Rules.{layer_passes, segment_passes}
@@ -123,5 +124,5 @@ module _ (a : Asked) (h : AskedInRange a) where
   well_formed = record { form = formed; rules = allowed }
 
   -- and so it is read back
-  pub read_back : parse (render (load_of a)) ≡ some (load_of a)
+  pub read_back : parse (render (load_of a)) ≡ Some (load_of a)
   read_back = complete (load_of a) well_formed

@@ -1,13 +1,13 @@
 -- The line that asks for a load has at most 20 bytes, and so the first 21 of an input decide; every answer has at most 11,518.
 -- Assumes nothing.
 use Rattle.std.specs.Prelude.{◌≡◌, ◌∷◌, ◌≤◌, ◌<◌}
-use Rattle.laws.proofs.Prelude.{refl, sym, ap, ◌∙◌, ⊎_elim, List, [], Option, some, none, ℕ, arith, pos, length, take}
+use Rattle.laws.proofs.Prelude.{refl, sym, ap, ◌∙◌, ⊎_elim, List, [], Option, Some, None, ℕ, arith, pos, length, take}
 use Rattle.laws.proofs.Prelude.{length-append, length-take-le, take_all, le_or_lt}
 use Rattle.decimal.specs.Decimal.{decimal}
 use Rattle.decimal.proofs.Print.{length_at_most}
 use Rattle.lines.specs.Text.{line_text}
 use Rattle.report.proofs.Examples.{refusal}
-use Rattle.load_statements.specs.Load.{Asked}
+use Rattle.load_statements.specs.declared.Asked.{Asked}
 use Rattle.load_statements.specs.Input.{AskedInRange, ask}
 use Rattle.load_statements.specs.Answer.{load_answer, load_answer_text}
 use Rattle.load_statements.specs.Length.{line_room, input_room, answer_room, LinesShort, FrontDecides, AnswersFit}
@@ -28,12 +28,12 @@ pub lines_short : LinesShort
 lines_short text a q = omega (arith, ap length q.printed, numbers_short a q.range)
 
 -- a longer text asks for nothing
-long_text : (text : List ℕ) → line_room < length text → ask text ≡ none
+long_text : (text : List ℕ) → line_room < length text → ask text ≡ None
 long_text text h = by (ask text) refl
   where
-    by : (o : Option Asked) → ask text ≡ o → o ≡ none
-    by none e = refl
-    by (some a) e = absurd (omega (arith, lines_short text a (ask_sound text a e)))
+    by : (o : Option Asked) → ask text ≡ o → o ≡ None
+    by None e = refl
+    by (Some a) e = absurd (omega (arith, lines_short text a (ask_sound text a e)))
 
 pub front_decides : FrontDecides
 unfolding load_answer_text
@@ -52,5 +52,5 @@ unfolding load_answer_text
 answers_fit text = by (ask text) refl
   where
     by : (o : Option Asked) → ask text ≡ o → length (load_answer o) ≤ answer_room
-    by none e = rw refusal (omega arith)
-    by (some a) e = omega (arith, text_long a (ask_sound text a e).range)
+    by None e = rw refusal (omega arith)
+    by (Some a) e = omega (arith, text_long a (ask_sound text a e).range)

@@ -1,8 +1,8 @@
 -- What holds of every load, put together; and what reading a line tells.
 -- Assumes nothing.
 use Rattle.std.specs.Prelude.{◌≡◌}
-use Rattle.laws.proofs.Prelude.{refl, List, Option, some, none, ℕ}
-use Rattle.load_statements.specs.Load.{Asked}
+use Rattle.laws.proofs.Prelude.{refl, List, Option, Some, None, ℕ}
+use Rattle.load_statements.specs.declared.Asked.{Asked}
 use Rattle.load_statements.specs.Input.{AskedInRange, ask}
 use Rattle.load_statements.specs.Made.{LoadMade, LoadTells}
 use Rattle.load_statements.proofs.Asking.{ask_sound, refused}
@@ -18,5 +18,5 @@ pub tells : (text : List ℕ) → LoadTells text (ask text)
 tells text = by (ask text) refl
   where
     by : (o : Option Asked) → ask text ≡ o → LoadTells text o
-    by none e = refused text e
-    by (some a) e = let q = ask_sound text a e in (q, made a q.range)
+    by None e = refused text e
+    by (Some a) e = let q = ask_sound text a e in (q, made a q.range)

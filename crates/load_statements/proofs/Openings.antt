@@ -16,7 +16,8 @@ use Rattle.queue_statements.specs.Opening.{add_all, is_light_opening}
 use Rattle.row_statements.specs.Lent.{Columns, is_queue_short, is_lent_short, is_lent_table}
 use Rattle.row_statements.specs.Opening.{open_verdict, open_state, open_of}
 use Rattle.job_statements.specs.Table.{table_words, table_colors}
-use Rattle.load_statements.specs.Load.{Asked, load_layer, load_of}
+use Rattle.load_statements.specs.declared.Asked.{Asked}
+use Rattle.load_statements.specs.Load.{load_layer, load_of}
 use Rattle.load_statements.specs.Input.{AskedInRange}
 use Rattle.load_statements.specs.Opened.{load_row, load_table, opening_of}
 use Rattle.load_statements.proofs.Forming.{all_tabulated}

@@ -19,7 +19,8 @@ use Rattle.queue_statements.specs.Opening.{add_all}
 use Rattle.job_statements.specs.Table.{table_words, table_colors}
 use Rattle.job_text_statements.specs.Job.{render}
 use Rattle.row_answer.specs.Answer.{answer_by, answer_text, job_driving, driving_text}
-use Rattle.load_statements.specs.Load.{Asked, load_layer, load_of}
+use Rattle.load_statements.specs.declared.Asked.{Asked}
+use Rattle.load_statements.specs.Load.{load_layer, load_of}
 use Rattle.load_statements.specs.Input.{AskedInRange}
 use Rattle.load_statements.specs.Opened.{load_row}
 use Rattle.load_statements.specs.Worked.{row_of, load_driving, is_light_at, WorkedWhole, EndedBy9, LoadWorked}

@@ -2,10 +2,11 @@
 -- one line of standard input in that order', 'three whole numbers in these ranges in document 01's text form, the seed having up to ten digits':
 -- what three such numbers print to. `ask` reads it; proofs/Asking says what this is: the inverse of `line_text` on these lines.
 use Rattle.std.specs.Prelude.{◌≡◌, ◌&&◌, ◌∷◌, ◌^◌, ◌≤◌, ◌<◌}
-use Rattle.laws.specs.Prelude.{cond, List, [], Option, some, none, ℕ, ltb, eqb, pos}
+use Rattle.laws.specs.Prelude.{cond, List, [], Option, Some, None, ℕ, ltb, eqb, pos}
 use Rattle.decimal.specs.Parse.{Parsed, parsed, failed, parseℕ}
 use Rattle.lines.specs.Text.{line_text}
-use Rattle.load_statements.specs.Load.{Asked, asked}
+use Rattle.load_statements.specs.declared.Asked.{Asked}
+use Rattle.load_statements.specs.Load.{asked}
 
 pub record AskedInRange (a : Asked) : Type 0 where
   pub seed : a.seed < 2 ^ 32
@@ -31,16 +32,16 @@ parse_field limit end s = line_ended end (parseℕ limit s)
 
 -- after each field: nothing stands behind the last, and neither tiles nor segments are 0
 abbrev pub after_count : ℕ → ℕ → Parsed ℕ → Option Asked
-after_count seed tiles failed = none
-after_count seed tiles (parsed count []) = cond (ltb 0 tiles && ltb 0 count) (some (asked seed tiles count)) none
-after_count seed tiles (parsed count (b ∷ t)) = none
+after_count seed tiles failed = None
+after_count seed tiles (parsed count []) = cond (ltb 0 tiles && ltb 0 count) (Some (asked seed tiles count)) None
+after_count seed tiles (parsed count (b ∷ t)) = None
 
 abbrev pub after_tiles : ℕ → Parsed ℕ → Option Asked
-after_tiles seed failed = none
+after_tiles seed failed = None
 after_tiles seed (parsed tiles t) = after_count seed tiles (parse_field 513 10 t)
 
 abbrev pub after_seed : Parsed ℕ → Option Asked
-after_seed failed = none
+after_seed failed = None
 after_seed (parsed seed t) = after_tiles seed (parse_field 4096 32 t)
 
 -- two fields that end with a space, and one that ends with LF

@@ -2,7 +2,7 @@
 -- enough to tell a longer input, and has room for every answer.
 use Rattle.std.specs.Prelude.{◌≡◌, ◌≤◌}
 use Rattle.laws.specs.Prelude.{List, ℕ, suc, length, take}
-use Rattle.load_statements.specs.Load.{Asked}
+use Rattle.load_statements.specs.declared.Asked.{Asked}
 use Rattle.load_statements.specs.Input.{Asks}
 use Rattle.load_statements.specs.Answer.{load_answer_text}
 

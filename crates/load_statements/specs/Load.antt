@@ -8,14 +8,10 @@ use Rattle.job_lines.specs.declared.layer.LayerLine.{LayerLine}
 use Rattle.job_lines.specs.declared.segment.SegmentLine.{SegmentLine}
 use Rattle.job_text_statements.specs.declared.Head.{Head}
 use Rattle.job_text_statements.specs.Job.{Job}
+use Rattle.load_statements.specs.declared.Asked.{Asked}
 use Rattle.load_statements.specs.Draw.{state_after, draw_at}
 
 -- what a load is made from
-pub record Asked : Type 0 where
-  pub seed : ℕ
-  pub tiles : ℕ
-  pub count : ℕ
-
 abbrev pub asked : ℕ → ℕ → ℕ → Asked
 asked seed tiles count = record { seed = seed; tiles = tiles; count = count }
 

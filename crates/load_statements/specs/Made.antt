@@ -1,7 +1,7 @@
 -- What holds of every load. Stands for document 02, W-204: 'the job reader is proved to accept every such text, and its rows ascend'. Beyond
 -- that, its layers are a table, and so an opening of its job, from tile 0 and with a queue that is long enough, is not refused; after it only 9 is.
 use Rattle.std.specs.Prelude.{◌≡◌, ◌≤◌}
-use Rattle.laws.specs.Prelude.{true, false, List, Option, some, none, ℕ, Float, pos, length, given}
+use Rattle.laws.specs.Prelude.{true, false, List, Option, Some, None, ℕ, Float, pos, length, given}
 use Rattle.pixel_segment.specs.Field.{cpu}
 use Rattle.segment_rows.specs.Rows.{is_row}
 use Rattle.row_statements.specs.Lent.{Columns, is_queue_short, is_lent_table}
@@ -9,7 +9,8 @@ use Rattle.row_statements.specs.Opening.{open_state, open_of}
 use Rattle.job_text_statements.specs.Job.{render}
 use Rattle.job_statements.specs.Read as reading
 use Rattle.job_statements.specs.Read.{job_outcome}
-use Rattle.load_statements.specs.Load.{Asked, load_of}
+use Rattle.load_statements.specs.declared.Asked.{Asked}
+use Rattle.load_statements.specs.Load.{load_of}
 use Rattle.load_statements.specs.Input.{Asks}
 use Rattle.load_statements.specs.Opened.{load_row, load_table, opening_of}
 use Rattle.load_statements.specs.Worked.{LoadWorked}
@@ -30,5 +31,5 @@ pub record LoadMade (a : Asked) : Type 0 where
 -- ---- what reading a line tells: the load that it asks for, or that it is no such line
 
 abbrev pub LoadTells : List ℕ → Option Asked → Type 0
-LoadTells text (some a) = Asks text a × LoadMade a
-LoadTells text none = (a : Asked) → Asks text a → ⊥
+LoadTells text (Some a) = Asks text a × LoadMade a
+LoadTells text None = (a : Asked) → Asks text a → ⊥

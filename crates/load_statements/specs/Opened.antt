@@ -4,7 +4,8 @@ use Rattle.row_statements.specs.Lent.{LentTable, lent_table}
 use Rattle.row_statements.specs.Opening.{OpenCall, open_call}
 use Rattle.job_statements.specs.Table.{table_words, table_colors}
 use Rattle.job_statements.specs.Row.{row_words}
-use Rattle.load_statements.specs.Load.{Asked, load_of}
+use Rattle.load_statements.specs.declared.Asked.{Asked}
+use Rattle.load_statements.specs.Load.{load_of}
 
 abbrev pub load_row : Asked → List ℕ
 load_row a = row_words (pos 0) (load_of a).segments

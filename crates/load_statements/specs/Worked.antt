@@ -1,7 +1,7 @@
 -- How the row of a load is worked after its opening. Stands for document 02, W-204: 'rows whose covers grow too large end with 9 in the row program';
 -- and no row of a load ends with another number.
 use Rattle.std.specs.Prelude.{◌≡◌, ◌||◌, ◌⊎◌, ◌<◌}
-use Rattle.laws.specs.Prelude.{Bool, true, false, not, some, none, ℕ, pos, length}
+use Rattle.laws.specs.Prelude.{Bool, true, false, not, Some, None, ℕ, pos, length}
 use Rattle.refusals.specs.Refusal.{pass, unless}
 use Rattle.cached_tile.specs.Kept.{tag_out_of_range}
 use Rattle.tile_layers.specs.Listing.{are_light}
@@ -12,7 +12,8 @@ use Rattle.row_statements.specs.Run.{open_row}
 use Rattle.row_lines.specs.Driven.{Driving, row_driving}
 use Rattle.job_text_statements.specs.Job.{render}
 use Rattle.row_answer.specs.Answer.{driving_text, answer_text}
-use Rattle.load_statements.specs.Load.{Asked, load_of}
+use Rattle.load_statements.specs.declared.Asked.{Asked}
+use Rattle.load_statements.specs.Load.{load_of}
 use Rattle.load_statements.specs.Opened.{opening_of}
 
 -- the row that the opening opens, and what the row program works out of it
@@ -28,13 +29,13 @@ is_light_at a n = are_light (layers_on (row_of a) n)
 
 -- all tiles are worked
 pub record WorkedWhole (a : Asked) (d : Driving) : Type 0 where
-  pub refusal : d.refusal ≡ none
+  pub refusal : d.refusal ≡ None
   pub lines : length d.lines ≡ a.tiles
   pub light : (n : ℕ) → n < a.tiles → is_light_at a n ≡ true
 
 -- the tiles before the first whose covers grow too large are
 pub record EndedBy9 (a : Asked) (d : Driving) : Type 0 where
-  pub refusal : d.refusal ≡ some 9
+  pub refusal : d.refusal ≡ Some 9
   pub before : length d.lines < a.tiles
   pub light : (n : ℕ) → n < length d.lines → is_light_at a n ≡ true
   pub heavy : is_light_at a (length d.lines) ≡ false

@@ -1,7 +1,7 @@
 -- The blocks of a load's text, printed: their lines, the text put together, and the answer to a line and to the front of an input.
 -- Assumes nothing.
 use Rattle.std.specs.Prelude.{◌≡◌, ◌∷◌, ◌++◌, ◌+◌, ◌*◌, ◌<◌, ◌≤◌}
-use Rattle.laws.proofs.Prelude.{refl, sym, ap, ap₂, subst, ◌∙◌, List, [], append-nil, Option, some, ℕ, suc, arith}
+use Rattle.laws.proofs.Prelude.{refl, sym, ap, ap₂, subst, ◌∙◌, List, [], append-nil, Option, Some, ℕ, suc, arith}
 use Rattle.laws.proofs.Prelude.{ℤ, length, take, tabulate}
 use Rattle.decimal.specs.Print.{Printing}
 use Rattle.decimal.proofs.Print.{joined}
@@ -12,7 +12,8 @@ use Rattle.job_text_statements.specs.Job.{head_values, layer_values, segment_val
 use Rattle.report.specs.Put.{LineWritten}
 use Rattle.report.proofs.Lines.{at_front}
 use Rattle.load_statements.specs.Draw.{state_after}
-use Rattle.load_statements.specs.Load.{Asked, load_head, load_layer, slot_of, segment_from, load_segment, load_of}
+use Rattle.load_statements.specs.declared.Asked.{Asked}
+use Rattle.load_statements.specs.Load.{load_head, load_layer, slot_of, segment_from, load_segment, load_of}
 use Rattle.load_statements.specs.Input.{AskedInRange, ask}
 use Rattle.load_statements.specs.Answer.{load_answer, load_answer_text}
 use Rattle.load_statements.specs.Length.{input_room}
@@ -39,9 +40,6 @@ head_printed {out₁ = out₁} {out₂ = out₂} {p = p} {r = r} tiles h q e l =
 
 -- ---- block 2
 
-pub eight : (id : ℕ) {line : List ℤ} → line ≡ layer_values (load_layer id) → 12 * length line ≡ 96
-eight id e = ap (λ (l : List ℤ). 12 * length l) e
-
 pub layers_printed : {out out₁ out₂ : List ℕ} {at p r id : ℕ} → Printing layer_names out at p out₁ → LinesPrinting (λ i. layer_values (load_layer i)) 8 18 out₁ p r id out₂ → 8 ≤ id
     → Printing layers_block out at r out₂ × (r ≤ at + 189)
 unfolding layers_block
@@ -50,9 +48,6 @@ layers_printed q v l =
     (block layer_names (tabulate 8 (λ i. layer_values (load_layer i))) q e.0, omega (arith, e.1, q.answer))
 
 -- ---- block 3
-
-pub seven : (s slot : ℕ) {line : List ℤ} → line ≡ segment_values (segment_from s slot) → 12 * length line ≡ 84
-seven s slot e = ap (λ (l : List ℤ). 12 * length l) e
 
 -- the lines so far, and the generator after their draws
 
@@ -111,5 +106,5 @@ by_front {whole = whole} {out = out} {out' = out'} {r = r} e a = record {
 }
 
 -- what a line asks for is in range
-pub in_range_lem : (text : List ℕ) {a : Asked} → some a ≡ ask text → AskedInRange a
+pub in_range_lem : (text : List ℕ) {a : Asked} → Some a ≡ ask text → AskedInRange a
 in_range_lem text {a} e = (ask_sound text a (sym e)).range

@@ -5,7 +5,8 @@ use Rattle.lines.specs.Text.{block_text}
 use Rattle.job_text_statements.specs.Text.{head_names, layer_names, segment_names}
 use Rattle.job_text_statements.specs.Job.{head_values, layer_values, segment_values}
 use Rattle.report.specs.Put.{LineWritten}
-use Rattle.load_statements.specs.Load.{Asked, load_head, load_layer, load_segment}
+use Rattle.load_statements.specs.declared.Asked.{Asked}
+use Rattle.load_statements.specs.Load.{load_head, load_layer, load_segment}
 use Rattle.load_statements.specs.Input.{ask}
 use Rattle.load_statements.specs.Answer.{load_answer_text}
 use Rattle.load_statements.specs.Made.{LoadTells}

@@ -43,11 +43,9 @@ pub fn print_layers(out: &mut [u8], at: usize) -> usize
     ensures { (Printing layers_block out.old at result out.new) × (result ≤ at + 189) }
 {
     let mut end = fields::print_bytes(out, at, b"layer rule clip span clipped fill mode alpha\n");
-    let mut id: u32 = 0;
-    while id < 8 {
+    for id in 0..8 {
         let line = layer_line(id);
         end = lines::print_line(out, end, &line);
-        id += 1;
     }
     end
 }
@@ -60,14 +58,12 @@ pub fn print_segments(out: &mut [u8], at: usize, seed: u32, tiles: u32, count: u
 {
     let mut end = fields::print_bytes(out, at, b"tile_x layer x y rows mult cover\n");
     let mut generator = Generator { state: seed };
-    let mut k: u32 = 0;
-    while k < count {
+    for k in 0..count {
         let slot = segment::slot_of(tiles, count, k);
         let drawn = segment::draw_segment(generator, slot);
         let line = drawn.line;
         end = lines::print_line(out, end, &line);
         generator = drawn.generator;
-        k += 1;
     }
     end
 }

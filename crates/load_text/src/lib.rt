@@ -7,7 +7,7 @@ pub mod blocks;
 ghost use Rattle.std.specs.Prelude.{◌≡◌, List, ℕ, ◌≤◌, length, OnOk, IfSome};
 ghost use Rattle.std.specs.Io.KnownBytes.{Appends};
 ghost use Rattle.job_text_statements.specs.Job.{render};
-ghost use Rattle.load_statements.specs.Load.{asked, load_of};
+ghost use Rattle.load_statements.specs.Load.{load_of};
 ghost use Rattle.load_statements.specs.Input.{AskedInRange};
 ghost use Rattle.load_statements.specs.Answer.{load_answer_text};
 ghost use Rattle.report.specs.Put.{LineWritten};
@@ -15,29 +15,29 @@ ghost use Rattle.input_front.specs.Front.{HoldsFront};
 ghost use Rattle.load_text.specs.Print.{LoadAnswered};
 
 use load_numbers::input;
-use load_numbers::input::Input;
+use load_statements::Asked;
 use report::fields;
 use std::io;
 use std::io::{Read, Write};
 
 // Writes the text of a load at the front of `out`, and answers its length. A text has at most 11,518 bytes; printing a
 // line asks for 84 past the lines that may come.
-fn write_load(out: &mut [u8], seed: u32, tiles: u32, count: u32) -> usize
-    requires { (AskedInRange (asked seed tiles count)) × (11602 ≤ length out.old) }
-    ensures { LineWritten (render (load_of (asked seed tiles count))) out.old result out.new }
+fn write_load(out: &mut [u8], asked: Asked) -> usize
+    requires { (AskedInRange asked) × (11602 ≤ length out.old) }
+    ensures { LineWritten (render (load_of asked)) out.old result out.new }
 {
-    let head_end = blocks::print_head(out, tiles);
+    let head_end = blocks::print_head(out, asked.tiles);
     let layers_end = blocks::print_layers(out, head_end);
-    blocks::print_segments(out, layers_end, seed, tiles, count)
+    blocks::print_segments(out, layers_end, asked.seed, asked.tiles, asked.count)
 }
 
 // Writes the text of a load at the front of `out`, which has room for every one, and answers its length.
-fn answer_load(seed: u32, tiles: u32, count: u32, out: &mut [u8; 11518]) -> usize
-    requires { AskedInRange (asked seed tiles count) }
-    ensures { LineWritten (render (load_of (asked seed tiles count))) out.old result out.new }
+fn answer_load(asked: Asked, out: &mut [u8; 11518]) -> usize
+    requires { AskedInRange asked }
+    ensures { LineWritten (render (load_of asked)) out.old result out.new }
 {
     let mut text = [0u8; 11602];
-    let end = write_load(&mut text, seed, tiles, count);
+    let end = write_load(&mut text, asked);
     fields::print_bytes(out, 0, &text[..end])
 }
 
@@ -47,8 +47,8 @@ pub fn answer(text: &[u8], out: &mut [u8; 11518]) -> usize
     ensures { LoadAnswered text.now out.old result out.new }
 {
     match input::read_input(text) {
-        Input::Asked(seed, tiles, count) => answer_load(seed, tiles, count, out),
-        Input::Malformed => fields::write_refusal(out, 10),
+        Some(asked) => answer_load(asked, out),
+        None => fields::write_refusal(out, 10),
     }
 }
 

@@ -4,9 +4,10 @@
 pub mod weights;
 
 ghost use Rattle.std.specs.Prelude.{◌≡◌, ◌<◌, ◌≤◌, ◌/◌, ◌%◌, length};
-ghost use Rattle.cover_statements.specs.Mark.{is_octet_used, mark_of, marked, marked_answer, Counted};
+ghost use Rattle.cover_statements.specs.Mark.{is_octet_used, mark_of, marked, Counted};
+ghost use Rattle.refusals.specs.Refusal.{given_or_refused};
 
-use cover_statements::marking::Marked;
+use refusals::Refusal;
 
 // Octet h of a column is its rows 8h to 8h + 7, so octet 2 × column + h is the eight numbers from 128 × h + column on,
 // 16 apart.
@@ -31,22 +32,20 @@ pub fn mark_of(plane: &[f32]) -> u32
     ensures { result ≡ mark_of plane.now }
 {
     let mut mark: u32 = 0;
-    let mut octet: usize = 32;
-    while 0 < octet {
-        octet -= 1;
+    for octet in (0..32).rev() {
         mark = mark * 2 + is_used(plane, octet) as u32;
     }
     mark
 }
 
-// The mark of any plane, or refusal 1.
-pub fn mark_plane(plane: &[f32]) -> Marked
-    ensures { marked_answer result ≡ marked plane.now }
+// The mark of any plane that is long enough, else refusal 1.
+pub fn mark_plane(plane: &[f32]) -> Result<u32, Refusal>
+    ensures { given_or_refused result ≡ marked plane.now }
 {
     if plane.len() < 256 {
-        Marked::PlaneTooShort
+        Err(Refusal::Room)
     } else {
-        Marked::Mark(mark_of(plane))
+        Ok(mark_of(plane))
     }
 }
 

@@ -35,9 +35,7 @@ pub fn mark_of(areas: &[i16]) -> u32
     ensures { result ≡ mark_of (weights_plane 16 (weights_of EvenOdd areas.now)) }
 {
     let mut mark: u32 = 0;
-    let mut octet: usize = 32;
-    while 0 < octet {
-        octet -= 1;
+    for octet in (0..32).rev() {
         mark = mark * 2 + is_used(areas, octet) as u32;
     }
     mark

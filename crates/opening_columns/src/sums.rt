@@ -34,7 +34,7 @@ fn add_segment(word: u64, place: usize, sums: &mut [i8], loads: &mut [u8]) -> bo
         return false;
     }
     loads[place] = load as u8;
-    sums[place] = sums[place] + cover;
+    sums[place] += cover;
     true
 }
 
@@ -45,15 +45,12 @@ pub fn add_segments(left: &[u64], ids: &[u32], n: usize, sums: &mut [i8]) -> boo
 {
     let mut loads = [0u8; 4096];
     let mut hint = 0;
-    let mut i = 0;
-    while i < left.len() {
-        let word = left[i];
-        let place = place_of(word, ids, n, hint);
-        if !add_segment(word, place, sums, &mut loads) {
+    for word in left {
+        let place = place_of(*word, ids, n, hint);
+        if !add_segment(*word, place, sums, &mut loads) {
             return false;
         }
         hint = place / 16;
-        i += 1;
     }
     true
 }

@@ -1,6 +1,6 @@
 -- The walk that finds whether a draw is freed: the latest clip so far and the layers that are left give the latest clip of all. Assumes nothing.
 use Rattle.std.specs.Prelude.{◌≡◌, ◌&&◌, ◌∷◌, ◌+◌, ◌≤◌}
-use Rattle.laws.proofs.Prelude.{refl, sym, ap, ◌∙◌, Bool, true, false, cond, List, [], map, Option, some, none, ℕ, ltb, leb}
+use Rattle.laws.proofs.Prelude.{refl, sym, ap, ◌∙◌, Bool, true, false, cond, List, [], map, Option, Some, None, ℕ, ltb, leb}
 use Rattle.laws.proofs.Prelude.{ℤ, length, drop, Answer, refused, given, is_given, cons_rest, filter}
 use Rattle.layer_table.specs.Lookup.{lookup}
 use Rattle.styling.specs.declared.Layer.{Layer}
@@ -9,7 +9,7 @@ use Rattle.queue_statements.specs.Queue.{queue_of, zeros}
 use Rattle.tile_layers.specs.Listing.{Listed, layers_in}
 use Rattle.tile_layers.specs.InnerWalk.{listed_at, layers_left, Stepped, Moved}
 use Rattle.tile_layers.specs.declared.walk.Next.{Next}
-use Rattle.tile_layers.proofs.Walking.{Walking, walk_start, walk_here, walk_next_lem, walk_end}
+use Rattle.tile_layers.proofs.Walking.{Walking, walk_here, walk_next_lem, walk_end}
 use Rattle.tile_layers.proofs.Filling.{has_between}
 use Rattle.pass_statements.specs.Clips.{is_clip}
 use Rattle.pass_statements.specs.Entry.{Entry}
@@ -23,7 +23,7 @@ use Rattle.painter.specs.Painting.{items_in}
 module _ (table : List Layer) (id : ℕ) where
   -- the latest clip once one more layer is met
   abbrev pub latest_with : Item → Option Item → Option Item
-  latest_with x found = cond (is_clip x.func && ltb x.id id) (some x) found
+  latest_with x found = cond (is_clip x.func && ltb x.id id) (Some x) found
 
   abbrev pub latest_after : Answer Layer → Entry → Option Item → Option Item
   latest_after a e found = cond (is_given a) (latest_with (item_from a e) found) found
@@ -46,7 +46,7 @@ module _ (table : List Layer) (id : ℕ) where
   freed_with : (x : Item) (found : Option Item) (freed : Bool) → freed ≡ is_freed found id → freed_after x id freed ≡ is_freed (latest_with x found) id
   freed_with x found freed e = by (is_clip x.func && ltb x.id id)
     where
-      by : (t : Bool) → cond t (leb id (last_reached x.id x.func) && x.full) freed ≡ is_freed (cond t (some x) found) id
+      by : (t : Bool) → cond t (leb id (last_reached x.id x.func) && x.full) freed ≡ is_freed (cond t (Some x) found) id
       by true = refl
       by false = e
 
@@ -68,10 +68,7 @@ module _ (n : ℕ) (ids : List ℕ) (covers : List ℤ) (part : List ℕ) (table
     pub walking : Walking n ids covers part i j k
     pub found : Option Item
     pub freed_is : freed ≡ is_freed found id
-    pub left : latest_clip (items_in table (drop k whole)) id found ≡ latest_clip (items_in table whole) id none
-
-  pub free_start : Freeing false 0 0
-  free_start = record { k = 0; walking = walk_start n ids covers part; found = none; freed_is = refl; left = refl }
+    pub left : latest_clip (items_in table (drop k whole)) id found ≡ latest_clip (items_in table whole) id None
 
   pub free_next : {i j : ℕ} {freed : Bool} → Freeing freed i j → (r : Next) → Stepped n ids covers part i j r → Moved n part i j r → (cover : List ℤ) (freed' : Bool) → cover ≡ cond r.carried (entries.cover_entry 16 i covers) zeros → freed' ≡ freed_by (lookup table r.id) (record { id = r.id; cover = cover; segments = ltb j r.end; changed = false }) id freed → Freeing freed' r.i r.end
   free_next {i} {j} {freed} s r p m cover freed' ec ef =
@@ -90,7 +87,7 @@ module _ (n : ℕ) (ids : List ℕ) (covers : List ℤ) (part : List ℕ) (table
             ∙ s.left;
       }
 
-  pub free_end : {i j : ℕ} {freed : Bool} → Freeing freed i j → n + length part ≤ i + j → freed ≡ is_freed (latest_clip (items_in table whole) id none) id
+  pub free_end : {i j : ℕ} {freed : Bool} → Freeing freed i j → n + length part ≤ i + j → freed ≡ is_freed (latest_clip (items_in table whole) id None) id
   free_end s h =
       s.freed_is
       ∙ ap (λ (o : Option Item). is_freed o id)

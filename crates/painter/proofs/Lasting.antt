@@ -1,5 +1,5 @@
 -- The last layer id that a clip of a judged table reaches fits 32 bits. Assumes nothing.
-use Rattle.std.specs.Prelude.{◌≡◌, ◌∷◌, ◌+◌, ◌≤◌, ◌<◌}
+use Rattle.std.specs.Prelude.{◌≡◌, ◌∷◌, ◌≤◌, ◌<◌}
 use Rattle.laws.proofs.Prelude.{refl, sym, ap, ◌∙◌, Bool, true, ⊎_elim, List, [], ℕ, arith, leb-true, le-leb, leb, Float}
 use Rattle.laws.proofs.Prelude.{given, all, left, right, all_intro, eq_or_ne}
 use Rattle.layer_table.specs.Lookup.{lookup}
@@ -11,10 +11,6 @@ use Rattle.styling.specs.declared.Func.{Func}
 use Rattle.styling.specs.declared.Func.TheVariants.{Draw, Clip}
 use Rattle.styling.specs.declared.Layer.{Layer}
 use Rattle.pass_statements.specs.Rules.{last_reached}
-
--- where a function is a clip, its last layer id is a sum
-pub last_sum : (id span : ℕ) (func : Func) → func ≡ Clip span → last_reached id func ≤ 4294967295 → id + span ≤ 4294967295
-last_sum id span func e h = rw e at h
 
 last_le : (id : ℕ) (func : Func) → id ≤ 2097151 → ((n : ℕ) → func ≡ Clip n → n ≤ 2097151) → last_reached id func ≤ 4294967295
 last_le id (Draw style) h k = omega arith

@@ -1,26 +1,19 @@
 -- The painter's clip, as `paint_layer` and `clip_at` of the Rust keep it. Stands for '`clip_at` writes the mask of a second clip but keeps the
 -- last layer id of the first while that one lives', from which P7 comes.
 use Rattle.std.specs.Prelude.{◌&&◌, ◌+◌}
-use Rattle.laws.specs.Prelude.{Bool, true, false, cond, Option, some, none, ℕ, ltb}
+use Rattle.laws.specs.Prelude.{Bool, true, false, cond, Option, Some, None, ℕ, ltb}
 use Rattle.styling.specs.declared.Func.{Func}
 use Rattle.styling.specs.declared.Func.TheVariants.{Draw, Clip}
-use Rattle.painter.specs.declared.Clip as painter
-use Rattle.painter.specs.declared.Clip.TheVariants.{Absent, Until}
-
--- the cases of the code's clip: none, or the last layer id that it lives up to
-abbrev pub clip_in : painter.Clip → Option ℕ
-clip_in Absent = none
-clip_in (Until last) = some last
 
 -- the clip that is alive when the layer id is painted: one whose last layer id is below it is dropped
 abbrev pub alive_at : Option ℕ → ℕ → Option ℕ
-alive_at none id = none
-alive_at (some last) id = cond (ltb last id) none (some last)
+alive_at None id = None
+alive_at (Some last) id = cond (ltb last id) None (Some last)
 
 -- a clip that is alive keeps its last layer id; where none is, one begins
 abbrev pub kept_or : Option ℕ → ℕ → Option ℕ
-kept_or none last = some last
-kept_or (some end) last = some end
+kept_or None last = Some last
+kept_or (Some end) last = Some end
 
 -- the clip after the layer id is painted: a draw leaves the one that is alive
 abbrev pub clip_after : Func → ℕ → Option ℕ → Option ℕ
@@ -28,8 +21,8 @@ clip_after (Draw style) id clip = alive_at clip id
 clip_after (Clip span) id clip = kept_or (alive_at clip id) (id + span)
 
 abbrev pub has_no_clip : Option ℕ → Bool
-has_no_clip none = true
-has_no_clip (some last) = false
+has_no_clip None = true
+has_no_clip (Some last) = false
 
 -- a clip is needed, and none is alive
 abbrev pub lacks_clip : Bool → Option ℕ → Bool

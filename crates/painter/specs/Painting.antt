@@ -20,7 +20,7 @@ use Rattle.pass_statements.specs.Item.{items_of}
 use Rattle.pass_statements.specs.Rules.{needs_clip}
 use Rattle.pass_statements.specs.declared.item.Item.{Item}
 use Rattle.layer_workbench.specs.Work.{entry_of}
-use Rattle.painter.specs.Clip.{clip_in, alive_at, clip_after, lacks_clip}
+use Rattle.painter.specs.Clip.{alive_at, clip_after, lacks_clip}
 use Rattle.painter.specs.declared.painting.Painting as painting
 
 -- the listed layers that the table has: a layer that it lacks is no clip. After an accepted tile work it has them all
@@ -55,7 +55,7 @@ is_light_in queue part id = is_light cpu 16 (held_in queue id) (layer_part id pa
 
 -- the clip after it, the mark, and the plane: the coverages over what it held
 pub record Paints (table : List Layer) (queue : List Carry) (part : List ℕ) (id : ℕ) (layer : Layer) (clip : Option ℕ) (old : List Float) (r : painting.Painting) (plane : List Float) : Type 0 where
-  pub clip_is : clip_in r.clip ≡ clip_after layer.props.func id clip
+  pub clip_is : r.clip ≡ clip_after layer.props.func id clip
   pub mark_is : r.mark ≡ mark_in table queue part id layer clip
   pub plane_is : plane ≡ over (plane_in queue part id layer) old
 

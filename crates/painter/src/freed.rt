@@ -1,6 +1,6 @@
 // Whether a draw needs a clip, by the layers of its tile.
 ghost use Rattle.std.specs.Prelude.{◌≡◌, false, ◌*◌, ◌≤◌, length};
-ghost use Rattle.std.proofs.Math.Option.{none};
+ghost use Rattle.std.specs.Prelude.{None};
 ghost use Rattle.layer_table.specs.Lookup.{lookup};
 ghost use Rattle.layer_table.specs.Table.{Table, table_of};
 ghost use Rattle.queue_statements.specs.Queue.{queue_of};
@@ -12,7 +12,6 @@ ghost use Rattle.painter.specs.Painting.{items_in};
 ghost use Rattle.painter.specs.InnerFreed.{freed_after, freed_by};
 
 use cover::Cover;
-use layer_table::Found;
 use styling::{Func, Layer};
 use tile_layers::walk;
 
@@ -65,11 +64,11 @@ fn freed_by(
         (record { id = at; cover = cover.covers; segments = has_segments; changed = false }) id freed }
 {
     match layer_table::find(layers, count, at) {
-        Found::At(p) => {
+        Some(p) => {
             let layer = layer_table::layer_at(layers, colors, p);
             freed_after(layer, at, cover, has_segments, id, freed)
         }
-        Found::Absent => freed,
+        None => freed,
     }
 }
 
@@ -88,7 +87,7 @@ pub fn is_freed(
     requires { Walks n ids.now part.now × (16 * n ≤ length covers.now)
         × Table layers.now colors.now count }
     ensures { result ≡ is_freed (latest_clip (items_in (table_of layers.now colors.now count)
-        (layers_in (queue_of n ids.now covers.now) part.now)) id none) id }
+        (layers_in (queue_of n ids.now covers.now) part.now)) id None) id }
 {
     let mut freed = false;
     let mut i: usize = 0;
@@ -121,9 +120,5 @@ pub fn needs_clip(
     ensures { result ≡ needs_clip (items_in (table_of layers.now colors.now count)
         (layers_in (queue_of n ids.now covers.now) part.now)) func id }
 {
-    if func.is_clipped() {
-        !is_freed(ids, covers, n, part, layers, colors, count, id)
-    } else {
-        false
-    }
+    func.is_clipped() && !is_freed(ids, covers, n, part, layers, colors, count, id)
 }

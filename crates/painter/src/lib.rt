@@ -5,10 +5,3 @@
 pub mod clips;
 pub mod freed;
 pub mod painting;
-
-// The painter's clip: none, or one that lives up to a layer id.
-#[derive(Clone, Copy)]
-pub enum Clip {
-    Absent,
-    Until(u32),
-}

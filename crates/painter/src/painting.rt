@@ -7,12 +7,11 @@ ghost use Rattle.pass_statements.specs.Rules.{last_reached};
 ghost use Rattle.layer_table.specs.Lookup.{lookup};
 ghost use Rattle.layer_table.specs.Table.{table_of};
 ghost use Rattle.queue_statements.specs.Queue.{queue_of};
-ghost use Rattle.painter.specs.Clip.{clip_in};
 ghost use Rattle.painter.specs.InnerOwn.{PaintsOwn};
 ghost use Rattle.painter.specs.Painting.{MarkGiven, is_light_in, Paints};
 ghost use Rattle.painter.specs.InnerReady.{Ready};
 
-use crate::{Clip, clips, freed};
+use crate::{clips, freed};
 use cover::Cover;
 use segment_rows::parts;
 use styling::{Func, Layer};
@@ -20,13 +19,13 @@ use styling::{Func, Layer};
 // What painting gives: the painter's clip after it, and the mark.
 #[derive(Clone, Copy)]
 pub struct Painting {
-    pub clip: Clip,
+    pub clip: Option<u32>,
     pub mark: u32,
 }
 
 // The mark of a layer, by the mark of its coverages.
-fn mark_for(func: Func, needs: bool, alive: Clip, used: u32) -> u32
-    ensures { MarkGiven func needs (clip_in alive) used result }
+fn mark_for(func: Func, needs: bool, alive: Option<u32>, used: u32) -> u32
+    ensures { MarkGiven func needs alive used result }
 {
     match func {
         Func::Clip(_) => 0,
@@ -47,12 +46,12 @@ pub fn paint_own(
     id: u32,
     layer: Layer,
     needs: bool,
-    clip: Clip,
+    clip: Option<u32>,
     plane: &mut [f32],
 ) -> Painting
     requires { (is_light cpu 16 cover.covers own.now ≡ true) × (256 ≤ length plane.old)
         × (last_reached id layer.props.func ≤ 4294967295) }
-    ensures { PaintsOwn own.now cover.covers id layer needs (clip_in clip)
+    ensures { PaintsOwn own.now cover.covers id layer needs clip
         plane.old result plane.new }
 {
     let props = layer.props;
@@ -80,14 +79,14 @@ pub fn paint(
     count: usize,
     id: u32,
     layer: Layer,
-    clip: Clip,
+    clip: Option<u32>,
     plane: &mut [f32],
 ) -> Painting
     requires { Ready n ids.now covers.now part.now layers.now colors.now count plane.old
         × (lookup (table_of layers.now colors.now count) id ≡ given layer)
         × (is_light_in (queue_of n ids.now covers.now) part.now id ≡ true) }
     ensures { Paints (table_of layers.now colors.now count)
-        (queue_of n ids.now covers.now) part.now id layer (clip_in clip)
+        (queue_of n ids.now covers.now) part.now id layer clip
         plane.old result plane.new }
 {
     let props = layer.props;

@@ -1,13 +1,11 @@
 -- The second pass as it runs over two lent columns: what is left of it, from place i on, gives what the whole pass gives. Assumes nothing.
-use Rattle.std.specs.Prelude.{◌≡◌, ◌∷◌, ◌+◌, ◌≤◌, ◌<◌}
+use Rattle.std.specs.Prelude.{◌≡◌, ◌∷◌, ◌+◌, ◌≤◌, ◌<◌, Option, Some, None}
 use Rattle.laws.proofs.Prelude.{refl, sym, ap, ap₂, ◌∙◌, Bool, true, false, not, List, [], ℕ, suc, add-suc, suc-add, add-one}
 use Rattle.laws.proofs.Prelude.{arith, length, set, drop, replicate, length-set, length-replicate, drop_of_length-le, over}
 use lib.Seq.{set-append_left}
 use Rattle.styling.specs.Style.{is_clipped_of}
 use Rattle.pass_statements.specs.declared.item.Item.{Item}
 use Rattle.pass_statements.specs.declared.clips.ActiveClip.{ActiveClip}
-use Rattle.pass_statements.specs.declared.clips.Current.{Current}
-use Rattle.pass_statements.specs.declared.clips.Current.TheVariants.{Nothing, Active}
 use Rattle.pass_statements.specs.declared.clips.Step.{Step}
 use Rattle.pass_statements.specs.Clips.{step_of, mask_off, unmasked_after, last_clip, Marks, clips_from, marks_of, Marking}
 use Rattle.pass_statements.proofs.Turns.{kept, Turn, opens, bare, past, within, turn}
@@ -20,23 +18,23 @@ pub length_after : (unmasked : List Bool) (i : ℕ) (s : Step) → length (unmas
 length_after unmasked i s =
     length_off (mask_off unmasked i s.masked) s.at.0 s.unused ∙ length_off unmasked i s.masked
 
-pub length_last : (cur : Current) (unmasked : List Bool) → length (last_clip cur unmasked) ≡ length unmasked
-length_last Nothing unmasked = refl
-length_last (Active k) unmasked = length_off unmasked k.at.0 (not k.used)
+pub length_last : (cur : Option ActiveClip) (unmasked : List Bool) → length (last_clip cur unmasked) ≡ length unmasked
+length_last None unmasked = refl
+length_last (Some k) unmasked = length_off unmasked k.at.0 (not k.used)
 
 -- ---- the loop
 
-pub record Passing (items : List Item) (n : ℕ) (unmasked₀ unclipped₀ unmasked unclipped : List Bool) (cur : Current) (i : ℕ) : Type 0 where
+pub record Passing (items : List Item) (n : ℕ) (unmasked₀ unclipped₀ unmasked unclipped : List Bool) (cur : Option ActiveClip) (i : ℕ) : Type 0 where
   pub reached : i ≤ n
   pub unmasked_same : length unmasked ≡ length unmasked₀
   pub unclipped_same : length unclipped ≡ length unclipped₀
-  pub rest : clips_from (drop i items) i cur unmasked unclipped ≡ clips_from items 0 Nothing unmasked₀ unclipped₀
+  pub rest : clips_from (drop i items) i cur unmasked unclipped ≡ clips_from items 0 None unmasked₀ unclipped₀
 
 module _ {items : List Item} {n : ℕ} {unmasked₀ unclipped₀ : List Bool} where
-  pub pass_start : Passing items n unmasked₀ unclipped₀ unmasked₀ unclipped₀ Nothing 0
+  pub pass_start : Passing items n unmasked₀ unclipped₀ unmasked₀ unclipped₀ None 0
   pass_start = record { reached = omega arith; unmasked_same = refl; unclipped_same = refl; rest = refl }
 
-  pub pass_next : {unmasked unclipped unmasked₁ unclipped₁ : List Bool} {cur : Current} {i : ℕ} {x y : Item} {s : Step}
+  pub pass_next : {unmasked unclipped unmasked₁ unclipped₁ : List Bool} {cur : Option ActiveClip} {i : ℕ} {x y : Item} {s : Step}
       → Passing items n unmasked₀ unclipped₀ unmasked unclipped cur i → i < n → drop i items ≡ y ∷ drop (suc i) items → x ≡ y
       → s ≡ step_of x cur i → (unmasked₁ ≡ unmasked_after unmasked i s) × (unclipped₁ ≡ set unclipped i s.unclipped)
       → Passing items n unmasked₀ unclipped₀ unmasked₁ unclipped₁ s.cur (i + 1)
@@ -50,8 +48,8 @@ module _ {items : List Item} {n : ℕ} {unmasked₀ unclipped₀ : List Bool} wh
             rw (m.0, m.1, add-one, step) (ap (λ (xs : List Item). clips_from xs i cur unmasked unclipped) (sym d) ∙ v.rest);
       }
 
-  pub pass_end : {unmasked unclipped unmasked' : List Bool} {cur : Current} {i : ℕ} → Passing items n unmasked₀ unclipped₀ unmasked unclipped cur i → length items ≡ n → n ≤ i
-      → unmasked' ≡ last_clip cur unmasked → record { unmasked = unmasked'; unclipped = unclipped } ≡ clips_from items 0 Nothing unmasked₀ unclipped₀
+  pub pass_end : {unmasked unclipped unmasked' : List Bool} {cur : Option ActiveClip} {i : ℕ} → Passing items n unmasked₀ unclipped₀ unmasked unclipped cur i → length items ≡ n → n ≤ i
+      → unmasked' ≡ last_clip cur unmasked → record { unmasked = unmasked'; unclipped = unclipped } ≡ clips_from items 0 None unmasked₀ unclipped₀
   unfolding clips_from
   pass_end {unmasked} {unclipped} {unmasked'} {cur} {i} v e h p =
       ap (λ (m : List Bool). record { unmasked = m; unclipped = unclipped }) p
@@ -61,13 +59,13 @@ module _ {items : List Item} {n : ℕ} {unmasked₀ unclipped₀ : List Bool} wh
 -- ---- what lies past the list's entries in the columns stays as it was
 
 -- the current clip stands in a place below b
-abbrev pub Below : Current → ℕ → Type 0
-Below Nothing b = 0 ≤ b
-Below (Active k) b = k.at.0 < b
+abbrev pub Below : Option ActiveClip → ℕ → Type 0
+Below None b = 0 ≤ b
+Below (Some k) b = k.at.0 < b
 
-pub below_up : (cur : Current) (b : ℕ) → Below cur b → Below cur (suc b)
-below_up Nothing b h = omega arith
-below_up (Active k) b h = omega arith
+pub below_up : (cur : Option ActiveClip) (b : ℕ) → Below cur b → Below cur (suc b)
+below_up None b h = omega arith
+below_up (Some k) b h = omega arith
 
 -- after a turn, and the place that the turn may mask off
 pub record Behind (s : Step) (b : ℕ) : Type 0 where
@@ -78,7 +76,7 @@ pub at_kept : (clipped : Bool) (k : ActiveClip) → (kept clipped k).at ≡ k.at
 at_kept true k = refl
 at_kept false k = refl
 
-pub behind : (x : Item) (cur : Current) (i b : ℕ) → Below cur b → i < b → Behind (step_of x cur i) b
+pub behind : (x : Item) (cur : Option ActiveClip) (i b : ℕ) → Below cur b → i < b → Behind (step_of x cur i) b
 behind x cur i b h p = by (turn x cur i)
   where
     by : Turn x cur i → Behind (step_of x cur i) b
@@ -104,15 +102,15 @@ after_over ws old i s h k =
     ap (λ (m : List Bool). mask_off m s.at.0 s.unused) (off_over ws old i s.masked h)
     ∙ off_over (mask_off ws i s.masked) old s.at.0 s.unused (rw (length_off ws i s.masked) k)
 
-last_over : (ws old : List Bool) (cur : Current) → Below cur (length ws) → last_clip cur (over ws old) ≡ over (last_clip cur ws) old
-last_over ws old Nothing h = refl
-last_over ws old (Active k) h = off_over ws old k.at.0 (not k.used) h
+last_over : (ws old : List Bool) (cur : Option ActiveClip) → Below cur (length ws) → last_clip cur (over ws old) ≡ over (last_clip cur ws) old
+last_over ws old None h = refl
+last_over ws old (Some k) h = off_over ws old k.at.0 (not k.used) h
 
 abbrev overs : Marks → List Bool → List Bool → Marks
 overs m oldUnmasked oldUnclipped = record { unmasked = over m.unmasked oldUnmasked; unclipped = over m.unclipped oldUnclipped }
 
 module _ (os ou : List Bool) where
-  clips_over : (xs : List Item) (i : ℕ) (cur : Current) (s u : List Bool) → i + length xs ≤ length s → i + length xs ≤ length u → Below cur (length s) → clips_from xs i cur (over s os) (over u ou) ≡ overs (clips_from xs i cur s u) os ou
+  clips_over : (xs : List Item) (i : ℕ) (cur : Option ActiveClip) (s u : List Bool) → i + length xs ≤ length s → i + length xs ≤ length u → Below cur (length s) → clips_from xs i cur (over s os) (over u ou) ≡ overs (clips_from xs i cur s u) os ou
   unfolding clips_from
   clips_over [] i cur s u h k b =
       ap (λ (m : List Bool). record { unmasked = m; unclipped = over u ou }) (last_over s os cur b)
@@ -130,11 +128,11 @@ module _ (os ou : List Bool) where
 -- the pass over columns whose front was filled
 pub passed : {items : List Item} {n : ℕ} {oldUnmasked oldUnclipped unmasked₀ unclipped₀ unmasked unclipped : List Bool} → length items ≡ n
     → unmasked₀ ≡ over (replicate n true) oldUnmasked → unclipped₀ ≡ over (replicate n false) oldUnclipped
-    → record { unmasked = unmasked; unclipped = unclipped } ≡ clips_from items 0 Nothing unmasked₀ unclipped₀ → Marking items oldUnmasked oldUnclipped unmasked unclipped
+    → record { unmasked = unmasked; unclipped = unclipped } ≡ clips_from items 0 None unmasked₀ unclipped₀ → Marking items oldUnmasked oldUnclipped unmasked unclipped
 passed {items} {n} {oldUnmasked} {oldUnclipped} {unmasked = unmasked} {unclipped = unclipped} e ps pu r =
     let m = length items in
     let h : 0 + length items ≤ length (replicate m true) = omega (arith, length-replicate m true) in
     let k : 0 + length items ≤ length (replicate m false) = omega (arith, length-replicate m false) in
     let whole : record { unmasked = unmasked; unclipped = unclipped } ≡ overs (marks_of items) oldUnmasked oldUnclipped =
-    rw (ps, pu, ← e) at r ∙ clips_over oldUnmasked oldUnclipped items 0 Nothing (replicate m true) (replicate m false) h k (omega arith) in
+    rw (ps, pu, ← e) at r ∙ clips_over oldUnmasked oldUnclipped items 0 None (replicate m true) (replicate m false) h k (omega arith) in
     record { unmasked_is = ap (λ (m : Marks). m.unmasked) whole; unclipped_is = ap (λ (m : Marks). m.unclipped) whole }

@@ -1,11 +1,11 @@
 -- The decision, put together from the passes. Assumes nothing.
-use Rattle.std.specs.Prelude.{◌≡◌, ◌&&◌, ◌∷◌, ◌++◌, ◌≤◌, ◌<◌}
+use Rattle.std.specs.Prelude.{◌≡◌, ◌&&◌, ◌∷◌, ◌++◌, ◌≤◌, ◌<◌, Option}
 use Rattle.laws.proofs.Prelude.{refl, sym, ap, ap₂, ◌∙◌, Bool, true, false, cond, List, [], ℕ, zero, suc}
 use Rattle.laws.proofs.Prelude.{le_of_suc-le-suc, not-suc-le-zero, arith, leb, length, get_or, drop, set, replicate, length-set, length-replicate}
 use Rattle.laws.proofs.Prelude.{List·getD-append, over}
+use Rattle.pass_statements.specs.declared.clips.ActiveClip.{ActiveClip}
 use Rattle.styling.specs.declared.Color.{Color}
 use Rattle.pass_statements.specs.declared.item.Item.{Item}
-use Rattle.pass_statements.specs.declared.clips.Current.{Current}
 use Rattle.pass_statements.specs.declared.covered.Covered.{Covered}
 use Rattle.pass_statements.specs.declared.covered.InterestingCover.{InterestingCover}
 use Rattle.pass_statements.specs.declared.covered.InterestingCover.TheVariants.{Absent, Opaque, Incomplete}
@@ -14,7 +14,6 @@ use Rattle.pass_statements.specs.declared.decide.Decision.TheVariants.{None, Pai
 use Rattle.pass_statements.specs.declared.decide.Decided.{Decided}
 use Rattle.pass_statements.specs.declared.decide.Bottom.{Bottom}
 use Rattle.pass_statements.specs.declared.decide.Bottom.TheVariants.{Settled, Under}
-use Rattle.pass_statements.specs.declared.unchanged.PreviousCount.{PreviousCount}
 use Rattle.pass_statements.specs.Unchanged.{is_kept, were_removed}
 use Rattle.pass_statements.specs.Clips.{step_of, unmasked_after, clips_from, marks_of, Marking}
 use Rattle.pass_statements.specs.Covered.{hides, look_at, item_at, covered_from, start_of, covered_of}
@@ -70,14 +69,14 @@ decided {found} {whole} {bottom} {decision} clear items unmasked e b d =
 
 -- ---- the marks have the list's length
 
-pub length_unmasked : (xs : List Item) (i : ℕ) (cur : Current) (s u : List Bool) → length (clips_from xs i cur s u).unmasked ≡ length s
+pub length_unmasked : (xs : List Item) (i : ℕ) (cur : Option ActiveClip) (s u : List Bool) → length (clips_from xs i cur s u).unmasked ≡ length s
 unfolding clips_from
 length_unmasked [] i cur s u = length_last cur s
 length_unmasked (x ∷ xs) i cur s u =
     let step = step_of x cur i in
     length_unmasked xs (suc i) step.cur (unmasked_after s i step) (set u i step.unclipped) ∙ length_after s i step
 
-pub length_unclipped : (xs : List Item) (i : ℕ) (cur : Current) (s u : List Bool) → length (clips_from xs i cur s u).unclipped ≡ length u
+pub length_unclipped : (xs : List Item) (i : ℕ) (cur : Option ActiveClip) (s u : List Bool) → length (clips_from xs i cur s u).unclipped ≡ length u
 unfolding clips_from
 length_unclipped [] i cur s u = refl
 length_unclipped (x ∷ xs) i cur s u =
@@ -139,7 +138,7 @@ decided_passed {items} {old} free {column} {unclipped} {r} clear removed m e =
       column = m.unmasked_is;
     }
 
-module _ {n : ℕ} (items : List Item) (previous : PreviousCount) (clear : Color) (u : Bool) {old column : List Bool} {kept : Bool} (e : length items ≡ n) (k : kept ≡ is_kept u previous items) where
+module _ {n : ℕ} (items : List Item) (previous : Option ℕ) (clear : Color) (u : Bool) {old column : List Bool} {kept : Bool} (e : length items ≡ n) (k : kept ≡ is_kept u previous items) where
   pub decided_kept : kept ≡ true → column ≡ over (replicate n true) old → Deciding (outcome_of clear u previous items) old (record { decision = None; skipped = record { 0 = 0 } }) column
   unfolding outcome_of
   decided_kept h c = rw (← k, h) (record { decision = refl; skipped = refl; column = rw e c })

@@ -1,6 +1,6 @@
 -- A clip as the second pass comes to it: what it is judged by. It stays where another clip comes before a layer past its end, or a clipped draw
 -- within its span; what is full is masked off at once. Assumes nothing.
-use Rattle.std.specs.Prelude.{◌≡◌, ◌&&◌, ◌||◌, ◌∷◌, ◌+◌, ◌≤◌, ◌<◌}
+use Rattle.std.specs.Prelude.{◌≡◌, ◌&&◌, ◌||◌, ◌∷◌, ◌+◌, ◌≤◌, ◌<◌, Option, Some}
 use Rattle.laws.proofs.Prelude.{refl, sym, ap, ◌∙◌, Bool, true, false, not, false≢true, and-true, and-false, List, [], ℕ, zero}
 use Rattle.laws.proofs.Prelude.{suc, not-suc-le-zero, le_of_suc-le-suc, add-suc, suc-add, arith, le-leb, lt-leb, leb, length, get_or}
 use Rattle.laws.proofs.Prelude.{set, drop, get_or-set_same}
@@ -8,8 +8,6 @@ use Rattle.styling.specs.Style.{is_clipped_of}
 use Rattle.pass_statements.specs.declared.Index.{Index}
 use Rattle.pass_statements.specs.declared.item.Item.{Item}
 use Rattle.pass_statements.specs.declared.clips.ActiveClip.{ActiveClip}
-use Rattle.pass_statements.specs.declared.clips.Current.{Current}
-use Rattle.pass_statements.specs.declared.clips.Current.TheVariants.{Active}
 use Rattle.pass_statements.specs.declared.clips.Step.{Step}
 use Rattle.pass_statements.specs.Clips.{place, is_clip, step_of, mask_off, unmasked_after, clips_from}
 use Rattle.pass_statements.specs.Covered.{item_at}
@@ -33,7 +31,7 @@ rest xs i s u t j = get_or (clips_from xs (suc i) t.cur (unmasked_after s i t) (
 
 -- place a of a clip that is current at place i, while the list ys is left
 abbrev Left : List Item → ℕ → ActiveClip → List Bool → List Bool → ℕ → Type 0
-Left ys i k s u a = get_or (clips_from ys i (Active k) s u).unmasked a false ≡ (get_or s a false && stays k ys)
+Left ys i k s u a = get_or (clips_from ys i (Some k) s u).unmasked a false ≡ (get_or s a false && stays k ys)
 
 last_kept : (clipped : Bool) (k : ActiveClip) → (kept clipped k).last ≡ k.last
 last_kept true k = refl
@@ -84,12 +82,12 @@ module _ (y : Item) (ys : List Item) (k : ActiveClip) where
 
 -- a clip takes the place of the current one, which is left as it is
 replaced : (y : Item) (ys : List Item) (span : ℕ) (k : ActiveClip) (i : ℕ) (s u : List Bool) (a : ℕ)
-    → step_of y (Active k) i ≡ record { cur = Active (opened y span i); masked = y.full; unclipped = false; unused = false; at = place 0 } → a < i
-    → get_or (clips_from (y ∷ ys) i (Active k) s u).unmasked a false ≡ get_or s a false
+    → step_of y (Some k) i ≡ record { cur = Some (opened y span i); masked = y.full; unclipped = false; unused = false; at = place 0 } → a < i
+    → get_or (clips_from (y ∷ ys) i (Some k) s u).unmasked a false ≡ get_or s a false
 unfolding clips_from
 replaced y ys span k i s u a e h =
     ap (λ (t : Step). rest ys i s u t a) e
-    ∙ unmasked_before ys (suc i) (Active (opened y span i)) (mask_off s i y.full) (set u i false) a (omega arith) (λ q. omega arith)
+    ∙ unmasked_before ys (suc i) (Some (opened y span i)) (mask_off s i y.full) (set u i false) a (omega arith) (λ q. omega arith)
     ∙ off_other s i a y.full (λ q. omega arith)
 
 -- the current clip, while it waits to be judged
@@ -102,9 +100,9 @@ waits [] k i s u a e h l = rw e (off_unused s a k.used l ∙ ap (λ (t : Bool). 
     by false true = refl
     by false false = refl
 waits (y ∷ ys) k i s u a e h l =
-    by (λ k' v d. waits ys k' (suc i) s (set u i v) a d (omega arith) l) (turn y (Active k) i)
+    by (λ k' v d. waits ys k' (suc i) s (set u i v) a d (omega arith) l) (turn y (Some k) i)
   where
-    by : ((k' : ActiveClip) (v : Bool) → k'.at.0 ≡ a → Left ys (suc i) k' s (set u i v) a) → Turn y (Active k) i → Left (y ∷ ys) i k s u a
+    by : ((k' : ActiveClip) (v : Bool) → k'.at.0 ≡ a → Left ys (suc i) k' s (set u i v) a) → Turn y (Some k) i → Left (y ∷ ys) i k s u a
     by go (opens span f t) =
         replaced y ys span k i s u a t h
         ∙ sym (and-true (get_or s a false))
@@ -123,7 +121,7 @@ waits (y ∷ ys) k i s u a e h l =
         let same : k ≡ k' = cc in
         let b = is_clipped_of y.func in
         ap (λ (z : Step). rest ys i s u z a) t
-        ∙ ap (λ (z : ActiveClip). get_or (clips_from ys (suc i) (Active (kept b z)) s (set u i (b && z.full))).unmasked a false) (sym same)
+        ∙ ap (λ (z : ActiveClip). get_or (clips_from ys (suc i) (Some (kept b z)) s (set u i (b && z.full))).unmasked a false) (sym same)
         ∙ go (kept b k) (b && k.full) (ap (λ (z : Index). z.0) (at_kept b k) ∙ e)
         ∙ ap (λ (t : Bool). get_or s a false && t) (sym (stays_within y ys k f (rw (← same) at m)))
 
@@ -133,7 +131,7 @@ waits (y ∷ ys) k i s u a e h l =
 abbrev pub judged_by : Item → List Item → Bool
 judged_by c above = not c.full && (meets_clip (last_reached c.id c.func) above || meets_user (last_reached c.id c.func) above)
 
-pub judged : (xs : List Item) (i : ℕ) (cur : Current) (s u : List Bool) (p j : ℕ) → Below cur i → p < length xs → is_clip (item_at xs p).func ≡ true
+pub judged : (xs : List Item) (i : ℕ) (cur : Option ActiveClip) (s u : List Bool) (p j : ℕ) → Below cur i → p < length xs → is_clip (item_at xs p).func ≡ true
     → i + length xs ≤ length s → j ≡ i + p → get_or s j false ≡ true → get_or (clips_from xs i cur s u).unmasked j false ≡ judged_by (item_at xs p) (drop (suc p) xs)
 unfolding clips_from
 judged [] i cur s u p j b h c o e f = absurd (not-suc-le-zero h)

@@ -1,9 +1,7 @@
 -- The first pass: a kept tile, by its two tests. Assumes nothing.
-use Rattle.std.specs.Prelude.{◌≡◌, ◌&&◌}
+use Rattle.std.specs.Prelude.{◌≡◌, ◌&&◌, Option, Some}
 use Rattle.laws.proofs.Prelude.{refl, sym, Bool, true, false, false≢true, List, ℕ, eqb, length}
 use Rattle.pass_statements.specs.declared.item.Item.{Item}
-use Rattle.pass_statements.specs.declared.unchanged.PreviousCount.{PreviousCount}
-use Rattle.pass_statements.specs.declared.unchanged.PreviousCount.TheVariants.{Kept}
 use Rattle.pass_statements.specs.Unchanged.{all_unchanged, is_kept}
 
 passed : (a b t : Bool) → (a && b) ≡ true → t ≡ (a && (b && t))
@@ -16,7 +14,7 @@ failed true true t e = absurd (false≢true (sym e))
 failed true false t e = refl
 failed false b t e = refl
 
-module _ {previous : PreviousCount} {k n : ℕ} (unchanged : Bool) (items : List Item) (is : previous ≡ Kept k) (long : length items ≡ n) where
+module _ {previous : Option ℕ} {k n : ℕ} (unchanged : Bool) (items : List Item) (is : previous ≡ Some k) (long : length items ≡ n) where
   pub kept_all : {t : Bool} → (unchanged && eqb k n) ≡ true → t ≡ all_unchanged items → t ≡ is_kept unchanged previous items
   kept_all e p = rw (is, long, p) (passed unchanged (eqb k n) (all_unchanged items) e)
 

@@ -1,6 +1,5 @@
 -- Laws that the proofs of this crate and of those above it cite.
 pub mod Listing
-pub mod Columns
 pub mod Keeping
 pub mod Steps
 pub mod Turns

@@ -1,8 +1,8 @@
 -- A look of the third pass at one layer: each answer, from the test that leads to it. Assumes nothing.
-use Rattle.std.specs.Prelude.{◌≡◌, ◌&&◌}
+use Rattle.std.specs.Prelude.{◌≡◌, ◌&&◌, Option}
 use Rattle.laws.proofs.Prelude.{Bool, true, false, ℕ}
-use Rattle.styling.specs.declared.Paint.{Paint}
-use Rattle.styling.specs.Style.{color_in, is_opaque, solid_color}
+use Rattle.styling.specs.declared.Color.{Color}
+use Rattle.styling.specs.Style.{is_opaque, solid_color}
 use Rattle.pass_statements.specs.declared.Index.{Index}
 use Rattle.pass_statements.specs.declared.item.Item.{Item}
 use Rattle.pass_statements.specs.declared.covered.InterestingCover.{InterestingCover}
@@ -14,7 +14,7 @@ module _ (x : Item) (unclipped : Bool) where
   pub tells_partial : {p : Bool} → p ≡ is_partial x unclipped → p ≡ true → Incomplete ≡ tells x unclipped
   tells_partial e h = rw (← e, h)
 
-  pub tells_opaque : {p o : Bool} (paint : Paint) {r : InterestingCover} → p ≡ is_partial x unclipped → p ≡ false → o ≡ is_opaque x.func → o ≡ true → color_in paint ≡ solid_color x.func → r ≡ opaque_of (color_in paint) → r ≡ tells x unclipped
+  pub tells_opaque : {p o : Bool} (paint : Option Color) {r : InterestingCover} → p ≡ is_partial x unclipped → p ≡ false → o ≡ is_opaque x.func → o ≡ true → paint ≡ solid_color x.func → r ≡ opaque_of paint → r ≡ tells x unclipped
   tells_opaque paint e h f k s q = rw (← e, h, ← f, k, ← s) q
 
   pub tells_nothing : {p o : Bool} → p ≡ is_partial x unclipped → p ≡ false → o ≡ is_opaque x.func → o ≡ false → Absent ≡ tells x unclipped

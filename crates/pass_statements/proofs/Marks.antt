@@ -1,24 +1,23 @@
 -- What the second pass leaves at a place: a turn marks its own place, and masks off at most the current clip besides. Assumes nothing.
-use Rattle.std.specs.Prelude.{◌≡◌, ◌∷◌, ◌≤◌, ◌<◌}
+use Rattle.std.specs.Prelude.{◌≡◌, ◌∷◌, ◌≤◌, ◌<◌, Option, Some, None}
 use Rattle.laws.proofs.Prelude.{refl, sym, ◌∙◌, Bool, true, false, not, false≢true, List, [], ℕ, suc, arith, length, get_or, set}
 use Rattle.laws.proofs.Prelude.{get_or-set_same, get_or-set_other}
+use Rattle.pass_statements.specs.declared.clips.ActiveClip.{ActiveClip}
 use Rattle.styling.specs.Style.{is_clipped_of}
 use Rattle.pass_statements.specs.declared.item.Item.{Item}
-use Rattle.pass_statements.specs.declared.clips.Current.{Current}
-use Rattle.pass_statements.specs.declared.clips.Current.TheVariants.{Nothing, Active}
 use Rattle.pass_statements.specs.declared.clips.Step.{Step}
 use Rattle.pass_statements.specs.Clips.{is_clip, step_of, mask_off, unmasked_after, clips_from}
 use Rattle.pass_statements.proofs.Turns.{Turn, opens, bare, past, within, turn}
 use Rattle.pass_statements.proofs.Clipping.{Below, at_kept}
 
 -- the current clip does not stand in place j
-abbrev pub Apart : Current → ℕ → Type 0
-Apart Nothing j = 0 ≤ j
-Apart (Active k) j = k.at.0 ≡ j → ⊥
+abbrev pub Apart : Option ActiveClip → ℕ → Type 0
+Apart None j = 0 ≤ j
+Apart (Some k) j = k.at.0 ≡ j → ⊥
 
-pub below_apart : (cur : Current) (i j : ℕ) → Below cur i → i ≤ j → Apart cur j
-below_apart Nothing i j b h = omega arith
-below_apart (Active k) i j b h = λ e. omega arith
+pub below_apart : (cur : Option ActiveClip) (i j : ℕ) → Below cur i → i ≤ j → Apart cur j
+below_apart None i j b h = omega arith
+below_apart (Some k) i j b h = λ e. omega arith
 
 pub off_other : (unmasked : List Bool) (i j : ℕ) (off : Bool) → (i ≡ j → ⊥) → get_or (mask_off unmasked i off) j false ≡ get_or unmasked j false
 off_other unmasked i j true h = get_or-set_other unmasked i j false false (λ e. h (sym e))
@@ -29,7 +28,7 @@ pub record Spared (s : Step) (j : ℕ) : Type 0 where
   pub apart : Apart s.cur j
   pub clip : (unmasked : List Bool) → get_or (mask_off unmasked s.at.0 s.unused) j false ≡ get_or unmasked j false
 
-pub spared : (x : Item) (cur : Current) (i j : ℕ) → Apart cur j → (is_clip x.func ≡ true → i ≡ j → ⊥) → Spared (step_of x cur i) j
+pub spared : (x : Item) (cur : Option ActiveClip) (i j : ℕ) → Apart cur j → (is_clip x.func ≡ true → i ≡ j → ⊥) → Spared (step_of x cur i) j
 spared x cur i j a h = by (turn x cur i)
   where
     by : Turn x cur i → Spared (step_of x cur i) j
@@ -43,7 +42,7 @@ spared x cur i j a h = by (turn x cur i)
         rw s (record { apart = rw (at_kept (is_clipped_of x.func) k) stands; clip = λ unmasked. refl })
 
 -- what a turn at place i leaves in another place, and in its own
-pub after_other : (x : Item) (cur : Current) (i j : ℕ) (unmasked : List Bool) → Apart cur j → (i ≡ j → ⊥) → get_or (unmasked_after unmasked i (step_of x cur i)) j false ≡ get_or unmasked j false
+pub after_other : (x : Item) (cur : Option ActiveClip) (i j : ℕ) (unmasked : List Bool) → Apart cur j → (i ≡ j → ⊥) → get_or (unmasked_after unmasked i (step_of x cur i)) j false ≡ get_or unmasked j false
 after_other x cur i j unmasked a h =
     (spared x cur i j a (λ e. h)).clip (mask_off unmasked i (step_of x cur i).masked)
     ∙ off_other unmasked i j (step_of x cur i).masked h
@@ -54,16 +53,16 @@ off_own unmasked i false h e = e
 
 -- ---- the rest of the pass leaves the places before it as they are, but for the current clip's
 
-pub unmasked_before : (xs : List Item) (i : ℕ) (cur : Current) (s u : List Bool) (j : ℕ) → j < i → Apart cur j → get_or (clips_from xs i cur s u).unmasked j false ≡ get_or s j false
+pub unmasked_before : (xs : List Item) (i : ℕ) (cur : Option ActiveClip) (s u : List Bool) (j : ℕ) → j < i → Apart cur j → get_or (clips_from xs i cur s u).unmasked j false ≡ get_or s j false
 unfolding clips_from
-unmasked_before [] i Nothing s u j h a = refl
-unmasked_before [] i (Active k) s u j h a = off_other s k.at.0 j (not k.used) a
+unmasked_before [] i None s u j h a = refl
+unmasked_before [] i (Some k) s u j h a = off_other s k.at.0 j (not k.used) a
 unmasked_before (x ∷ xs) i cur s u j h a =
     let step = step_of x cur i in
     unmasked_before xs (suc i) step.cur (unmasked_after s i step) (set u i step.unclipped) j (omega arith) (spared x cur i j a (λ e. λ q. omega arith)).apart
     ∙ after_other x cur i j s a (λ q. omega arith)
 
-pub unclipped_before : (xs : List Item) (i : ℕ) (cur : Current) (s u : List Bool) (j : ℕ) → j < i → get_or (clips_from xs i cur s u).unclipped j false ≡ get_or u j false
+pub unclipped_before : (xs : List Item) (i : ℕ) (cur : Option ActiveClip) (s u : List Bool) (j : ℕ) → j < i → get_or (clips_from xs i cur s u).unclipped j false ≡ get_or u j false
 unfolding clips_from
 unclipped_before [] i cur s u j h = refl
 unclipped_before (x ∷ xs) i cur s u j h =
@@ -74,7 +73,7 @@ unclipped_before (x ∷ xs) i cur s u j h =
 -- ---- at its own place
 
 -- a draw is not masked off unless its turn does it
-pub unmasked_draw : (x : Item) (xs : List Item) (i : ℕ) (cur : Current) (s u : List Bool) → is_clip x.func ≡ false → Below cur i → i < length s → get_or s i false ≡ true → get_or (clips_from (x ∷ xs) i cur s u).unmasked i false ≡ not (step_of x cur i).masked
+pub unmasked_draw : (x : Item) (xs : List Item) (i : ℕ) (cur : Option ActiveClip) (s u : List Bool) → is_clip x.func ≡ false → Below cur i → i < length s → get_or s i false ≡ true → get_or (clips_from (x ∷ xs) i cur s u).unmasked i false ≡ not (step_of x cur i).masked
 unfolding clips_from
 unmasked_draw x xs i cur s u e b h f =
     let step = step_of x cur i in
@@ -83,7 +82,7 @@ unmasked_draw x xs i cur s u e b h f =
     ∙ free.clip (mask_off s i step.masked)
     ∙ off_own s i step.masked h f
 
-pub unclipped_own : (x : Item) (xs : List Item) (i : ℕ) (cur : Current) (s u : List Bool) → i < length u → get_or (clips_from (x ∷ xs) i cur s u).unclipped i false ≡ (step_of x cur i).unclipped
+pub unclipped_own : (x : Item) (xs : List Item) (i : ℕ) (cur : Option ActiveClip) (s u : List Bool) → i < length u → get_or (clips_from (x ∷ xs) i cur s u).unclipped i false ≡ (step_of x cur i).unclipped
 unfolding clips_from
 unclipped_own x xs i cur s u h =
     let step = step_of x cur i in

@@ -1,6 +1,6 @@
 -- An outcome by its one test, and what the passes leave of a whole list, for proofs/Words. Assumes nothing.
-use Rattle.std.specs.Prelude.{◌≡◌, ◌&&◌, ◌||◌, ◌<◌}
-use Rattle.laws.proofs.Prelude.{refl, sym, ap, ◌∙◌, Bool, true, false, not, false≢true, List, map, none, ℕ, suc, zero-add}
+use Rattle.std.specs.Prelude.{◌≡◌, ◌&&◌, ◌||◌, ◌<◌, Option}
+use Rattle.laws.proofs.Prelude.{refl, sym, ap, ◌∙◌, Bool, true, false, not, false≢true, List, map, None, ℕ, suc, zero-add}
 use Rattle.laws.proofs.Prelude.{arith, length, get_or, drop, replicate, length-replicate, get_or-replicate, length-map, List·getD-map, left, right}
 use Rattle.styling.specs.declared.Color.{Color}
 use Rattle.styling.specs.declared.Func.{Func}
@@ -8,9 +8,7 @@ use Rattle.styling.specs.declared.Func.TheVariants.{Draw, Clip}
 use Rattle.styling.specs.Style.{is_clipped_of, is_opaque}
 use Rattle.styling.proofs.Ascents.{ascends_lt}
 use Rattle.pass_statements.specs.declared.item.Item.{Item}
-use Rattle.pass_statements.specs.declared.clips.Current.TheVariants.{Nothing}
 use Rattle.pass_statements.specs.Decision as decision
-use Rattle.pass_statements.specs.declared.unchanged.PreviousCount.{PreviousCount}
 use Rattle.pass_statements.specs.Unchanged.{is_kept, were_removed}
 use Rattle.pass_statements.specs.Clips.{is_clip, marks_of}
 use Rattle.pass_statements.specs.Covered.{is_partial, item_at}
@@ -23,7 +21,7 @@ use Rattle.pass_statements.proofs.Under.{Ruled, ruled}
 
 -- ---- an outcome
 
-module _ (clear : Color) (unchanged : Bool) (previous : PreviousCount) (items : List Item) where
+module _ (clear : Color) (unchanged : Bool) (previous : Option ℕ) (items : List Item) where
   pub outcome_kept : is_kept unchanged previous items ≡ true → outcome_of clear unchanged previous items ≡ record { decision = decision.none; unmasked = replicate (length items) true; skipped = 0 }
   unfolding outcome_of
   outcome_kept e = rw e
@@ -66,13 +64,13 @@ module _ (items : List Item) where
   pub judged_at : {i : ℕ} → ClipAt items i → is_unmasked items i ≡ judged_by (item_at items i) (drop (suc i) items)
   judged_at {i} c =
       let n = length items in
-      judged items 0 Nothing (replicate n true) (replicate n false) i i (omega arith) c.listed c.clips (omega (arith, length-replicate n true)) (sym (zero-add i)) (fresh i c.listed)
+      judged items 0 None (replicate n true) (replicate n false) i i (omega arith) c.listed c.clips (omega (arith, length-replicate n true)) (sym (zero-add i)) (fresh i c.listed)
 
   module _ (ascending : is_ascending items ≡ true) where
-    pub ruled_at : {i : ℕ} → DrawAt items i → Ruled items none (item_at items i) (is_unmasked items i) (is_free items i)
+    pub ruled_at : {i : ℕ} → DrawAt items i → Ruled items None (item_at items i) (is_unmasked items i) (is_free items i)
     ruled_at {i} d =
         let n = length items in
-        ruled items 0 Nothing (replicate n true) (replicate n false) none 0
+        ruled items 0 None (replicate n true) (replicate n false) None 0
         (record {
           agree = omega arith;
           ascending = ascending;
@@ -89,7 +87,7 @@ module _ (items : List Item) where
     pub clip_rule : {i : ℕ} → ClipAt items i → is_unmasked items i ≡ (not (item_at items i).full && (is_followed items i || is_clip_used items i))
     clip_rule {i} c =
         judged_at c
-        ∙ ap (λ (t : Bool). not (item_at items i).full && (is_followed items i || t)) (sym (used_at items i 0 none ascending (omega arith) c.listed c.clips))
+        ∙ ap (λ (t : Bool). not (item_at items i).full && (is_followed items i || t)) (sym (used_at items i 0 None ascending (omega arith) c.listed c.clips))
 
     pub free_rule : {i : ℕ} → DrawAt items i → is_clipped_of (item_at items i).func ≡ true → is_free items i ≡ not (needs_clip items (item_at items i).func (item_at items i).id)
     free_rule {i} d c = (ruled_at d).unclipped_is ∙ by (is_clipped_of (item_at items i).func) c (is_freed (latest_below items i) (item_at items i).id)

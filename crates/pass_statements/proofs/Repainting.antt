@@ -1,20 +1,17 @@
 -- W-208 in laws: a listed clip that is changed never leaves a tile as it is; the mark of a clip counts, masked off or not, and that of a draw that
 -- is masked off plays no part; marks are the list's own, whatever the table says. Assumes nothing.
-use Rattle.std.specs.Prelude.{◌≡◌, ◌&&◌, ◌||◌, ◌∷◌, ◌<◌}
+use Rattle.std.specs.Prelude.{◌≡◌, ◌&&◌, ◌||◌, ◌∷◌, ◌<◌, Option, None, Some}
 use Rattle.laws.proofs.Prelude.{refl, sym, ap, ◌∙◌, Bool, true, false, not, and-true, List, [], map, ℕ, zero, suc}
 use Rattle.laws.proofs.Prelude.{le_of_suc-le-suc, not-suc-le-zero, arith, eqb, length, get_or, length-set, length-map, get_or-set_same, get_or-set_other}
 use Rattle.laws.proofs.Prelude.{Answer, given, refused, clash, not_left, not_right}
+use Rattle.pass_statements.specs.declared.clips.ActiveClip.{ActiveClip}
 use Rattle.styling.specs.declared.Color.{Color}
 use Rattle.styling.specs.declared.Layer.{Layer}
 use Rattle.layer_table.specs.Lookup.{lookup}
 use Rattle.pass_statements.specs.declared.item.Item.{Item}
-use Rattle.pass_statements.specs.declared.clips.Current.{Current}
-use Rattle.pass_statements.specs.declared.clips.Current.TheVariants.{Nothing}
 use Rattle.pass_statements.specs.declared.covered.Covered.{Covered}
 use Rattle.pass_statements.specs.declared.covered.InterestingCover.{InterestingCover}
 use Rattle.pass_statements.specs.declared.covered.InterestingCover.TheVariants.{Absent, Opaque, Incomplete}
-use Rattle.pass_statements.specs.declared.unchanged.PreviousCount.{PreviousCount}
-use Rattle.pass_statements.specs.declared.unchanged.PreviousCount.TheVariants as counts
 use Rattle.pass_statements.specs.Entry.{Entry}
 use Rattle.pass_statements.specs.Item.{item_of, item_from, items_of}
 use Rattle.pass_statements.specs.Unchanged.{all_unchanged, is_kept, were_removed}
@@ -70,9 +67,9 @@ not_all (x ∷ xs) e = by (not_all xs) x.unchanged refl (is_clip x.func) refl
     by go true q true p = go (rw (q, p) at e)
     by go true q false p = go (rw (q, p) at e)
 
-pub not_kept : (unchanged : Bool) (previous : PreviousCount) (items : List Item) → are_clips_unchanged items ≡ false → is_kept unchanged previous items ≡ false
-not_kept unchanged counts.Absent items e = refl
-not_kept unchanged (counts.Kept n) items e =
+pub not_kept : (unchanged : Bool) (previous : Option ℕ) (items : List Item) → are_clips_unchanged items ≡ false → is_kept unchanged previous items ≡ false
+not_kept unchanged None items e = refl
+not_kept unchanged (Some n) items e =
     not_right unchanged (eqb n (length items) && all_unchanged items) (not_right (eqb n (length items)) (all_unchanged items) (not_all items e))
 
 -- what counts as changed stays so in the third pass
@@ -116,7 +113,7 @@ module _ (clear : Color) (items : List Item) (changed : are_clips_unchanged item
       not_none found.first found.unchanged clear (shown_of found.skipped.0 items s)
       (stays_changed items s u (length items) (start_of items removed) (not_right (not removed) (are_clips_unchanged items) changed)) q
 
-  pub outcome_repaints : (unchanged : Bool) (previous : PreviousCount) → (outcome_of clear unchanged previous items).decision ≡ none → ⊥
+  pub outcome_repaints : (unchanged : Bool) (previous : Option ℕ) → (outcome_of clear unchanged previous items).decision ≡ none → ⊥
   outcome_repaints unchanged previous q =
       let is = outcome_passed clear unchanged previous items (not_kept unchanged previous items changed) in
       passed_repaints (were_removed previous (length items)) (rw is at q)
@@ -124,7 +121,7 @@ module _ (clear : Color) (items : List Item) (changed : are_clips_unchanged item
 -- 'The full-cover pass counts a tile as changed when any listed clip layer is changed, masked off or not': a list with a clip whose mark is set is
 -- never left as it is, whatever the table, the kept count and the clear colours say
 pub changed_clip_repaints : (table : List Layer) (entries : List Entry) {i : ℕ} → ChangedClipAt table entries i
-    → (clear : Color) (unchanged : Bool) (previous : PreviousCount) → (outcome_of clear unchanged previous (items_of table entries)).decision ≡ none → ⊥
+    → (clear : Color) (unchanged : Bool) (previous : Option ℕ) → (outcome_of clear unchanged previous (items_of table entries)).decision ≡ none → ⊥
 changed_clip_repaints table entries {i} c clear unchanged previous =
     outcome_repaints clear (items_of table entries)
     (clip_at (items_of table entries) i (rw (length-map entries (item_of table)) c.listed) c.clips (marked entries i c.listed c.marked)) unchanged previous
@@ -137,7 +134,7 @@ changed_clip_repaints table entries {i} c clear unchanged previous =
 -- ---- what a mark does
 
 -- the second pass reads none
-marks_from : (items : List Item) (i : ℕ) (changed : Bool) (j : ℕ) (cur : Current) (s u : List Bool) → clips_from (with_mark items i changed) j cur s u ≡ clips_from items j cur s u
+marks_from : (items : List Item) (i : ℕ) (changed : Bool) (j : ℕ) (cur : Option ActiveClip) (s u : List Bool) → clips_from (with_mark items i changed) j cur s u ≡ clips_from items j cur s u
 unfolding clips_from step_of
 marks_from [] i changed j cur s u = refl
 marks_from (x ∷ xs) zero changed j cur s u = refl
@@ -145,7 +142,7 @@ marks_from (x ∷ xs) (suc i) changed j cur s u = marks_from xs i changed (suc j
 
 module _ (items : List Item) (i : ℕ) (changed : Bool) where
   pub same_marks : marks_of (with_mark items i changed) ≡ marks_of items
-  same_marks = rw (length-set items i (remarked (item_at items i) changed)) (marks_from items i changed 0 Nothing _ _)
+  same_marks = rw (length-set items i (remarked (item_at items i) changed)) (marks_from items i changed 0 None _ _)
 
   other : (k : ℕ) → (k ≡ i → ⊥) → item_at (with_mark items i changed) k ≡ item_at items k
   other k h = get_or-set_other items i k _ _ h
@@ -167,7 +164,7 @@ module _ (items : List Item) (i : ℕ) (changed : Bool) where
       clips_same (x ∷ xs) (suc k) e = ap (λ (t : Bool). is_clip_unchanged x && t) (clips_same xs k e)
 
 -- that of a clip does, masked off or not
-pub clip_mark : (items : List Item) {i : ℕ} → ClipAt items i → (clear : Color) (unchanged : Bool) (previous : PreviousCount)
+pub clip_mark : (items : List Item) {i : ℕ} → ClipAt items i → (clear : Color) (unchanged : Bool) (previous : Option ℕ)
     → (outcome_of clear unchanged previous (with_mark items i true)).decision ≡ none → ⊥
 clip_mark items {i} c clear unchanged previous =
     outcome_repaints clear (with_mark items i true) (clip_at (with_mark items i true) i (rw (length-set items i (remarked (item_at items i) true)) c.listed) (rw here c.clips) (rw here)) unchanged previous

@@ -1,5 +1,5 @@
 -- One turn of the second pass: each answer of its functions, from the variant and the test that lead to it. Assumes nothing.
-use Rattle.std.specs.Prelude.{◌≡◌, ◌&&◌, ◌||◌, ◌+◌, ◌<◌, ◌≤◌}
+use Rattle.std.specs.Prelude.{◌≡◌, ◌&&◌, ◌||◌, ◌+◌, ◌<◌, ◌≤◌, Option, Some, None}
 use Rattle.laws.proofs.Prelude.{refl, sym, ap, ◌∙◌, List, Bool, true, false, cond, not, ℕ, lt-ltb, le-ltb, length}
 use Rattle.laws.proofs.Prelude.{set}
 use lib.Seq.{set_out}
@@ -8,38 +8,36 @@ use Rattle.styling.specs.declared.Func.TheVariants.{Clip}
 use Rattle.styling.specs.Style.{is_clipped_of}
 use Rattle.pass_statements.specs.declared.item.Item.{Item}
 use Rattle.pass_statements.specs.declared.clips.ActiveClip.{ActiveClip}
-use Rattle.pass_statements.specs.declared.clips.Current.{Current}
-use Rattle.pass_statements.specs.declared.clips.Current.TheVariants.{Nothing, Active}
 use Rattle.pass_statements.specs.declared.clips.Drawn.{Drawn}
 use Rattle.pass_statements.specs.declared.clips.Closed.{Closed}
 use Rattle.pass_statements.specs.declared.clips.Step.{Step}
 use Rattle.pass_statements.specs.Clips.{place, opened_of, used_of, clipped_of, drawn_of, closed_of, is_clip, step_of, mask_off, unmasked_after, last_clip}
 
-pub opens : {f : Func} {span : ℕ} (cur : Current) (id : ℕ) (full : Bool) (i : ℕ) → f ≡ Clip span → Active (record { full = full; last = id + span; at = place i; used = false }) ≡ opened_of f cur id full i
+pub opens : {f : Func} {span : ℕ} (cur : Option ActiveClip) (id : ℕ) (full : Bool) (i : ℕ) → f ≡ Clip span → Some (record { full = full; last = id + span; at = place i; used = false }) ≡ opened_of f cur id full i
 opens cur id full i e = rw e
 
-pub outside : {cur : Current} {k : ActiveClip} {id : ℕ} → cur ≡ Active k → k.last < id → record { cur = Active k; masked = true; unclipped = false } ≡ clipped_of cur id
+pub outside : {cur : Option ActiveClip} {k : ActiveClip} {id : ℕ} → cur ≡ Some k → k.last < id → record { cur = Some k; masked = true; unclipped = false } ≡ clipped_of cur id
 outside e h = rw (e, lt-ltb _ _ h)
 
-pub no_clip : {cur : Current} (id : ℕ) → cur ≡ Nothing → record { cur = Nothing; masked = true; unclipped = false } ≡ clipped_of cur id
+pub no_clip : {cur : Option ActiveClip} (id : ℕ) → cur ≡ None → record { cur = None; masked = true; unclipped = false } ≡ clipped_of cur id
 no_clip id e = rw e
 
-pub inside : {cur : Current} {k : ActiveClip} {id : ℕ} → cur ≡ Active k → id ≤ k.last → record { cur = Active (used_of k); masked = false; unclipped = k.full } ≡ clipped_of cur id
+pub inside : {cur : Option ActiveClip} {k : ActiveClip} {id : ℕ} → cur ≡ Some k → id ≤ k.last → record { cur = Some (used_of k); masked = false; unclipped = k.full } ≡ clipped_of cur id
 inside e h = rw (e, le-ltb _ _ h)
 
-pub draws_clipped : {b : Bool} {r : Drawn} (cur : Current) (id : ℕ) → b ≡ true → r ≡ clipped_of cur id → r ≡ drawn_of b cur id
+pub draws_clipped : {b : Bool} {r : Drawn} (cur : Option ActiveClip) (id : ℕ) → b ≡ true → r ≡ clipped_of cur id → r ≡ drawn_of b cur id
 draws_clipped cur id e p = rw e p
 
-pub draws_unclipped : {b : Bool} (cur : Current) (id : ℕ) → b ≡ false → record { cur = cur; masked = false; unclipped = false } ≡ drawn_of b cur id
+pub draws_unclipped : {b : Bool} (cur : Option ActiveClip) (id : ℕ) → b ≡ false → record { cur = cur; masked = false; unclipped = false } ≡ drawn_of b cur id
 draws_unclipped cur id e = rw e
 
-pub ends : {cur : Current} {k : ActiveClip} {id : ℕ} → cur ≡ Active k → k.last < id → record { cur = Nothing; unused = not k.used; at = k.at } ≡ closed_of cur id
+pub ends : {cur : Option ActiveClip} {k : ActiveClip} {id : ℕ} → cur ≡ Some k → k.last < id → record { cur = None; unused = not k.used; at = k.at } ≡ closed_of cur id
 ends e h = rw (e, lt-ltb _ _ h)
 
-pub stays_none : {cur : Current} (id : ℕ) → cur ≡ Nothing → record { cur = Nothing; unused = false; at = place 0 } ≡ closed_of cur id
+pub stays_none : {cur : Option ActiveClip} (id : ℕ) → cur ≡ None → record { cur = None; unused = false; at = place 0 } ≡ closed_of cur id
 stays_none id e = rw e
 
-pub goes_on : {cur : Current} {k : ActiveClip} {id : ℕ} → cur ≡ Active k → id ≤ k.last → record { cur = Active k; unused = false; at = place 0 } ≡ closed_of cur id
+pub goes_on : {cur : Option ActiveClip} {k : ActiveClip} {id : ℕ} → cur ≡ Some k → id ≤ k.last → record { cur = Some k; unused = false; at = place 0 } ≡ closed_of cur id
 goes_on e h = rw (e, le-ltb _ _ h)
 
 -- a choice, without a branch
@@ -49,7 +47,7 @@ chosen true false b = refl
 chosen false a b = refl
 
 -- the calls of one turn, put together
-pub composed : (x : Item) (cur : Current) (i : ℕ) {o : Current} {p t : Bool} {d : Drawn} {e : Closed}
+pub composed : (x : Item) (cur : Option ActiveClip) (i : ℕ) {o : Option ActiveClip} {p t : Bool} {d : Drawn} {e : Closed}
     → o ≡ opened_of x.func cur x.id x.full i → p ≡ is_clipped_of x.func → d ≡ drawn_of p o x.id → e ≡ closed_of d.cur x.id → t ≡ is_clip x.func
     → record { cur = e.cur; masked = t && x.full || not t && d.masked; unclipped = d.unclipped; unused = e.unused; at = e.at } ≡ step_of x cur i
 unfolding step_of
@@ -67,5 +65,5 @@ off_past unmasked i e h = rw e (sym (set_out unmasked i false h))
 pub off_after : {unmasked₁ unmasked₂ : List Bool} (unmasked : List Bool) (i : ℕ) (s : Step) → unmasked₁ ≡ mask_off unmasked i s.masked → unmasked₂ ≡ mask_off unmasked₁ s.at.0 s.unused → unmasked₂ ≡ unmasked_after unmasked i s
 off_after unmasked i s p q = q ∙ ap (λ (m : List Bool). mask_off m s.at.0 s.unused) p
 
-pub last_active : {cur : Current} {k : ActiveClip} {new : List Bool} (old : List Bool) → cur ≡ Active k → new ≡ mask_off old k.at.0 (not k.used) → new ≡ last_clip cur old
+pub last_active : {cur : Option ActiveClip} {k : ActiveClip} {new : List Bool} (old : List Bool) → cur ≡ Some k → new ≡ mask_off old k.at.0 (not k.used) → new ≡ last_clip cur old
 last_active old e p = rw e p

@@ -2,7 +2,7 @@
 -- before another clip and before any layer past its end. Assumes nothing.
 use Rattle.std.specs.Prelude.{◌≡◌, ◌&&◌, ◌||◌, ◌∷◌, ◌≤◌, ◌<◌}
 use Rattle.laws.proofs.Prelude.{refl, ap, ap₂, ◌∙◌, Bool, true, false, cond, not, and-false, false≢true, List, [], map, Option}
-use Rattle.laws.proofs.Prelude.{some, none, ℕ, zero, suc, not-suc-le-zero, le_of_suc-le-suc, arith, eq-eqb, ne_eqb, lt-leb, leb-false, leb}
+use Rattle.laws.proofs.Prelude.{Some, None, ℕ, zero, suc, not-suc-le-zero, le_of_suc-le-suc, arith, eq-eqb, ne_eqb, lt-leb, leb-false, leb}
 use Rattle.laws.proofs.Prelude.{length, drop, any, not_left, not_right}
 use Rattle.styling.specs.Ascending.{strictly_ascends_from}
 use Rattle.styling.specs.declared.Func.{Func}
@@ -34,7 +34,7 @@ module _ (c : Item) where
   used found xs = any (λ x. uses c (latest_clip xs x.id found) x) xs
 
   abbrev next : Item → Option Item → Option Item
-  next x found = cond (is_clip x.func) (some x) found
+  next x found = cond (is_clip x.func) (Some x) found
 
   used_step : (low : ℕ) (x : Item) (xs : List Item) (found : Option Item) → strictly_ascends_from low (map id_of (x ∷ xs)) ≡ true → used found (x ∷ xs) ≡ (uses c found x || used (next x found) xs)
   used_step low x xs found a =
@@ -58,7 +58,7 @@ module _ (c : Item) where
       ∙ ap₂ ◌||◌ (uses_not x found e)
       (used_other (suc x.id) xs (next x found) (ascends_tail low x.id (map id_of xs) a) (omega arith) (by (is_clip x.func)))
     where
-      by : (t : Bool) → is_latest c (cond t (some x) found) ≡ false
+      by : (t : Bool) → is_latest c (cond t (Some x) found) ≡ false
       by true = ne_eqb x.id c.id (λ q. omega (arith, ascends_head low x.id (map id_of xs) a))
       by false = e
 
@@ -88,20 +88,20 @@ module _ (c : Item) where
       within false m false q = q refl
 
       by : strictly_ascends_from (suc x.id) (map id_of xs) ≡ true → c.id < x.id → used found xs ≡ meets_user last xs
-          → (t : Bool) → is_clip x.func ≡ t → (uses c found x || used (cond t (some x) found) xs) ≡ (not t && (leb x.id last && (is_clipped_of x.func || meets_user last xs)))
-      by tail p rest true q = ap₂ ◌||◌ (uses_clip x found q) (used_other (suc x.id) xs (some x) tail (omega arith) (ne_eqb x.id c.id (λ r. omega arith)))
+          → (t : Bool) → is_clip x.func ≡ t → (uses c found x || used (cond t (Some x) found) xs) ≡ (not t && (leb x.id last && (is_clipped_of x.func || meets_user last xs)))
+      by tail p rest true q = ap₂ ◌||◌ (uses_clip x found q) (used_other (suc x.id) xs (Some x) tail (omega arith) (ne_eqb x.id c.id (λ r. omega arith)))
       by tail p rest false q =
           ap (λ (t : Bool). uses c found x || t) rest
           ∙ rw e (within (is_clipped_of x.func) (meets_user last xs) (leb x.id last) (λ r. meets_past (suc x.id) xs tail (omega (arith, leb-false x.id last r))))
 
 -- what was found stands below low
 abbrev Lower : Option Item → ℕ → Type 0
-Lower none low = 0 ≤ low
-Lower (some x) low = x.id < low
+Lower None low = 0 ≤ low
+Lower (Some x) low = x.id < low
 
 lower_not : (c : Item) (found : Option Item) (low : ℕ) → Lower found low → low ≤ c.id → is_latest c found ≡ false
-lower_not c none low l h = refl
-lower_not c (some x) low l h = ne_eqb x.id c.id (λ q. omega arith)
+lower_not c None low l h = refl
+lower_not c (Some x) low l h = ne_eqb x.id c.id (λ q. omega arith)
 
 -- the clip in place p of the list
 pub used_at : (xs : List Item) (p low : ℕ) (found : Option Item) → strictly_ascends_from low (map id_of xs) ≡ true → Lower found low → p < length xs → is_clip (item_at xs p).func ≡ true
@@ -109,7 +109,7 @@ pub used_at : (xs : List Item) (p low : ℕ) (found : Option Item) → strictly_
 used_at [] p low found a l h e = absurd (not-suc-le-zero h)
 used_at (x ∷ xs) zero low found a l h e =
     used_step x low x xs found a
-    ∙ ap₂ ◌||◌ (uses_clip x x found e) (rw e (used_own x (suc x.id) xs (some x) (ascends_tail low x.id (map id_of xs) a) (omega arith) (eq-eqb x.id x.id refl)))
+    ∙ ap₂ ◌||◌ (uses_clip x x found e) (rw e (used_own x (suc x.id) xs (Some x) (ascends_tail low x.id (map id_of xs) a) (omega arith) (eq-eqb x.id x.id refl)))
 used_at (x ∷ xs) (suc p) low found a l h e =
     let c = item_at xs p in
     let tail = ascends_tail low x.id (map id_of xs) a in
@@ -119,10 +119,10 @@ used_at (x ∷ xs) (suc p) low found a l h e =
     ∙ ap₂ ◌||◌ (uses_not c x found (lower_not c found low l (omega arith)))
     (used_at xs p (suc x.id) (next c x found) tail (by head (is_clip x.func)) (le_of_suc-le-suc h) e)
   where
-    by : low ≤ x.id → (t : Bool) → Lower (cond t (some x) found) (suc x.id)
+    by : low ≤ x.id → (t : Bool) → Lower (cond t (Some x) found) (suc x.id)
     by q true = omega arith
     by q false = lift found l
       where
         lift : (o : Option Item) → Lower o low → Lower o (suc x.id)
-        lift none m = omega arith
-        lift (some y) m = omega arith
+        lift None m = omega arith
+        lift (Some y) m = omega arith

@@ -1,5 +1,5 @@
 -- What the scope says of the passes in words, proved of the definitions. Assumes nothing.
-use Rattle.std.specs.Prelude.{◌≡◌, ◌&&◌, ◌||◌, ◌⊎◌, ◌≤◌, ◌<◌}
+use Rattle.std.specs.Prelude.{◌≡◌, ◌&&◌, ◌||◌, ◌⊎◌, ◌≤◌, ◌<◌, Option, Some, None}
 use Rattle.laws.proofs.Prelude.{refl, ap, ◌∙◌, Bool, true, false, not, and-true, and-false, inl, ⊎_elim, ⊎_map, List, [], ℕ}
 use Rattle.laws.proofs.Prelude.{not-suc-le-zero, arith, ne_eqb, length, length-replicate, either}
 use Rattle.styling.specs.declared.Color.{Color}
@@ -7,8 +7,6 @@ use Rattle.styling.specs.Style.{is_clipped_of}
 use Rattle.pass_statements.specs.declared.item.Item.{Item}
 use Rattle.pass_statements.specs.declared.covered.Covered.{Covered}
 use Rattle.pass_statements.specs.Decision.{solid}
-use Rattle.pass_statements.specs.declared.unchanged.PreviousCount.{PreviousCount}
-use Rattle.pass_statements.specs.declared.unchanged.PreviousCount.TheVariants.{Kept, Absent}
 use Rattle.pass_statements.specs.Unchanged.{is_kept, were_removed}
 use Rattle.pass_statements.specs.Clips.{Marks, marks_of}
 use Rattle.pass_statements.specs.Covered.{item_at, covered_from, covered_of}
@@ -57,7 +55,7 @@ module _ (items : List Item) where
     pub passed_hides : (clear : Color) (removed : Bool) {p : ℕ} → Hides items (passed_of clear removed items).unmasked p → p ≤ (passed_of clear removed items).skipped
     passed_hides clear removed {p} h = hidden_skipped items (marks_of items).unmasked (marks_of items).unclipped (length items) _ p (words_hide items ascending h)
 
-    pub hides_skips : (clear : Color) (unchanged : Bool) (previous : PreviousCount) {p : ℕ} → is_kept unchanged previous items ≡ false
+    pub hides_skips : (clear : Color) (unchanged : Bool) (previous : Option ℕ) {p : ℕ} → is_kept unchanged previous items ≡ false
         → Hides items (outcome_of clear unchanged previous items).unmasked p → p ≤ (outcome_of clear unchanged previous items).skipped
     hides_skips clear unchanged previous e h =
         let is = outcome_passed clear unchanged previous items e in
@@ -69,7 +67,7 @@ module _ (items : List Item) where
         ⊎_elim (λ e. absurd (omega arith)) (λ g. over items ascending i (passed_of clear removed items).skipped g h)
         (skipped_by items (marks_of items).unmasked (marks_of items).unclipped (length items) _)
 
-    pub covered : (clear : Color) (unchanged : Bool) (previous : PreviousCount) (i : ℕ) → i < (outcome_of clear unchanged previous items).skipped
+    pub covered : (clear : Color) (unchanged : Bool) (previous : Option ℕ) (i : ℕ) → i < (outcome_of clear unchanged previous items).skipped
         → Over items (outcome_of clear unchanged previous items).unmasked i (outcome_of clear unchanged previous items).skipped
     covered clear unchanged previous i h =
         ⊎_elim (λ e. absurd (not-suc-le-zero (rw (outcome_kept clear unchanged previous items e) at h)))
@@ -102,7 +100,7 @@ module _ (items items' : List Item) where
 
 -- ---- all three
 
-module _ (clear : Color) (unchanged : Bool) (previous : PreviousCount) (items : List Item) where
+module _ (clear : Color) (unchanged : Bool) (previous : Option ℕ) (items : List Item) where
   pub outcome_long : length (outcome_of clear unchanged previous items).unmasked ≡ length items
   outcome_long =
       ⊎_elim
@@ -119,16 +117,16 @@ module _ (clear : Color) (unchanged : Bool) (previous : PreviousCount) (items : 
 
 -- 'An empty list with no keeping answers solid with the clear colour': where no count was kept, or another than 0, or the clear colour changed
 module _ (clear : Color) where
-  pub empty_solid : (unchanged : Bool) (previous : PreviousCount) → is_kept unchanged previous [] ≡ false → (outcome_of clear unchanged previous []).decision ≡ solid clear 0
+  pub empty_solid : (unchanged : Bool) (previous : Option ℕ) → is_kept unchanged previous [] ≡ false → (outcome_of clear unchanged previous []).decision ≡ solid clear 0
   unfolding shown_from covered_from
   empty_solid unchanged previous e = ap (λ (o : Outcome). o.decision) (outcome_passed clear unchanged previous [] e)
 
-  pub empty_new : (unchanged : Bool) → (outcome_of clear unchanged Absent []).decision ≡ solid clear 0
-  empty_new unchanged = empty_solid unchanged Absent refl
+  pub empty_new : (unchanged : Bool) → (outcome_of clear unchanged None []).decision ≡ solid clear 0
+  empty_new unchanged = empty_solid unchanged None refl
 
-  pub empty_counted : (unchanged : Bool) (n : ℕ) → (n ≡ 0 → ⊥) → (outcome_of clear unchanged (Kept n) []).decision ≡ solid clear 0
-  empty_counted unchanged n h = empty_solid unchanged (Kept n) (rw (ne_eqb n 0 h) (and-false unchanged))
+  pub empty_counted : (unchanged : Bool) (n : ℕ) → (n ≡ 0 → ⊥) → (outcome_of clear unchanged (Some n) []).decision ≡ solid clear 0
+  empty_counted unchanged n h = empty_solid unchanged (Some n) (rw (ne_eqb n 0 h) (and-false unchanged))
 
-  pub empty_recolored : (previous : PreviousCount) → (outcome_of clear false previous []).decision ≡ solid clear 0
-  empty_recolored Absent = empty_solid false Absent refl
-  empty_recolored (Kept n) = empty_solid false (Kept n) refl
+  pub empty_recolored : (previous : Option ℕ) → (outcome_of clear false previous []).decision ≡ solid clear 0
+  empty_recolored None = empty_solid false None refl
+  empty_recolored (Some n) = empty_solid false (Some n) refl

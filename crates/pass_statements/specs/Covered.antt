@@ -2,7 +2,7 @@
 -- hides all below it. It finds the first cover that tells whether the tile can be solid, whether the layers looked at are unchanged, and how
 -- many are skipped. Other than in the Rust, the tile also counts as changed where any listed clip is changed (W-208).
 use Rattle.std.specs.Prelude.{◌&&◌, ◌||◌}
-use Rattle.laws.specs.Prelude.{Bool, false, cond, not, List, Option, some, none, ℕ, zero, suc, length, get_or, all}
+use Rattle.laws.specs.Prelude.{Bool, false, cond, not, List, Option, Some, None, ℕ, zero, suc, length, get_or, all}
 use Rattle.styling.specs.declared.Color.{Color}
 use Rattle.styling.specs.declared.Func.TheVariants.{Clip}
 use Rattle.styling.specs.Style.{is_clipped_of, is_opaque, solid_color}
@@ -21,8 +21,8 @@ first_of Incomplete c = Incomplete
 
 -- the colour of an opaque layer
 abbrev pub opaque_of : Option Color → InterestingCover
-opaque_of (some color) = Opaque color
-opaque_of none = Incomplete
+opaque_of (Some color) = Opaque color
+opaque_of None = Incomplete
 
 -- the layer does not cover the whole tile: it needs a clip, or is not full
 abbrev pub is_partial : Item → Bool → Bool

@@ -2,8 +2,8 @@
 -- mix above it, or paint; which layers are masked off, and how many are skipped. A layer that is neither is shown; a skipped one, masked off or
 -- not, is passed over as covered.
 use Rattle.std.specs.Prelude.{◌≡◌, ◌&&◌, ◌∷◌}
-use Rattle.laws.specs.Prelude.{Bool, true, false, cond, List, [], Option, some, ℕ, suc, leb, length, drop, replicate, all, over}
-use Rattle.std.proofs.Math.Option as option
+use Rattle.laws.specs.Prelude.{Bool, true, false, cond, List, [], Option, Some, ℕ, suc, leb, length, drop, replicate, all, over}
+use Rattle.std.specs.declared.option.Option.TheVariants as option
 use Rattle.styling.specs.declared.Color.{Color}
 use Rattle.styling.specs.Style.{solid_color}
 use Rattle.pass_statements.specs.declared.item.Item.{Item}
@@ -14,7 +14,6 @@ use Rattle.pass_statements.specs.declared.decide.Decision.TheVariants.{None, Pai
 use Rattle.pass_statements.specs.declared.decide.Decided.{Decided}
 use Rattle.pass_statements.specs.declared.decide.Bottom.{Bottom}
 use Rattle.pass_statements.specs.declared.decide.Bottom.TheVariants.{Settled, Under}
-use Rattle.pass_statements.specs.declared.unchanged.PreviousCount.{PreviousCount}
 use Rattle.pass_statements.specs.Decision.{TileDecision, none, solid, paint, decision_in}
 use Rattle.pass_statements.specs.Unchanged.{is_kept, were_removed}
 use Rattle.pass_statements.specs.Clips.{marks_of}
@@ -30,8 +29,8 @@ abbrev pub shown_of : ℕ → List Item → List Bool → List Item
 shown_of skipped items unmasked = shown_from 0 skipped items unmasked
 
 abbrev pub has_color : Option Color → Bool
-has_color (some c) = true
-has_color option.none = false
+has_color (Some c) = true
+has_color option.None = false
 
 -- the layers after the first `below` shown ones all have a colour of their own to mix
 abbrev pub are_solid : ℕ → List Item → Bool
@@ -62,7 +61,7 @@ passed_of clear removed items =
     }
 
 -- all three: a kept tile has nothing masked off and nothing skipped
-unfoldable pub outcome_of : Color → Bool → PreviousCount → List Item → Outcome
+unfoldable pub outcome_of : Color → Bool → Option ℕ → List Item → Outcome
 outcome_of clear clear_unchanged count items =
     cond (is_kept clear_unchanged count items)
     (record { decision = none; unmasked = replicate (length items) true; skipped = 0 })

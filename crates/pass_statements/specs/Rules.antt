@@ -4,7 +4,7 @@
 -- 'A clip followed by another clip before a listed draw past its end is never judged for use; it stays shown unless full': shown there is not
 -- masked off. A clip that is judged is masked off where no listed draw uses it.
 use Rattle.std.specs.Prelude.{◌≡◌, ◌&&◌, ◌||◌, ◌∷◌, ◌+◌, ◌<◌}
-use Rattle.laws.specs.Prelude.{Bool, true, false, cond, not, List, [], map, Option, some, none, ℕ, suc, ltb, leb, eqb}
+use Rattle.laws.specs.Prelude.{Bool, true, false, cond, not, List, [], map, Option, Some, None, ℕ, suc, ltb, leb, eqb}
 use Rattle.laws.specs.Prelude.{length, get_or, set, drop, any}
 use Rattle.styling.specs.Ascending.{strictly_ascends}
 use Rattle.styling.specs.declared.Layer.{Layer}
@@ -20,7 +20,7 @@ use Rattle.pass_statements.specs.declared.item.Item.{Item}
 -- the latest listed clip below a layer id
 unfoldable pub latest_clip : List Item → ℕ → Option Item → Option Item
 latest_clip [] id found = found
-latest_clip (x ∷ xs) id found = latest_clip xs id (cond (is_clip x.func && ltb x.id id) (some x) found)
+latest_clip (x ∷ xs) id found = latest_clip xs id (cond (is_clip x.func && ltb x.id id) (Some x) found)
 
 -- the last layer id that a clip reaches
 abbrev pub last_reached : ℕ → Func → ℕ
@@ -29,17 +29,17 @@ last_reached id (Draw style) = id
 
 -- the layer lies within the span of the clip
 abbrev pub is_under : Option Item → ℕ → Bool
-is_under none id = false
-is_under (some c) id = leb id (last_reached c.id c.func)
+is_under None id = false
+is_under (Some c) id = leb id (last_reached c.id c.func)
 
 -- a full clip, within whose span the layer lies
 abbrev pub is_freed : Option Item → ℕ → Bool
-is_freed none id = false
-is_freed (some c) id = leb id (last_reached c.id c.func) && c.full
+is_freed None id = false
+is_freed (Some c) id = leb id (last_reached c.id c.func) && c.full
 
 -- a draw of the layer id needs a clip
 abbrev pub needs_clip : List Item → Func → ℕ → Bool
-needs_clip items func id = is_clipped_of func && not (is_freed (latest_clip items id none) id)
+needs_clip items func id = is_clipped_of func && not (is_freed (latest_clip items id None) id)
 
 -- the ids of a tile's list ascend strictly
 abbrev pub is_ascending : List Item → Bool
@@ -47,7 +47,7 @@ is_ascending items = strictly_ascends (map (λ x. x.id) items)
 
 -- the latest listed clip below the layer in place i
 abbrev pub latest_below : List Item → ℕ → Option Item
-latest_below items i = latest_clip items (item_at items i).id none
+latest_below items i = latest_clip items (item_at items i).id None
 
 -- what the second pass leaves in place i: the layer is not masked off; it is drawn unclipped
 abbrev pub is_unmasked : List Item → ℕ → Bool
@@ -81,8 +81,8 @@ is_followed items i = meets_clip (reach_of items i) (drop (suc i) items)
 
 -- the clip that was found is c
 abbrev pub is_latest : Item → Option Item → Bool
-is_latest c none = false
-is_latest c (some x) = eqb x.id c.id
+is_latest c None = false
+is_latest c (Some x) = eqb x.id c.id
 
 -- x is a clipped draw that has the clip c as its latest one and lies within its span
 abbrev pub uses : Item → Option Item → Item → Bool
@@ -90,7 +90,7 @@ uses c latest x = is_clipped_of x.func && is_latest c latest && leb x.id (last_r
 
 -- some listed draw uses the clip in place i
 abbrev pub is_clip_used : List Item → ℕ → Bool
-is_clip_used items i = any (λ x. uses (item_at items i) (latest_clip items x.id none) x) items
+is_clip_used items i = any (λ x. uses (item_at items i) (latest_clip items x.id None) x) items
 
 -- the layer in place p hides what is under it: it is listed and not masked off, full and opaque, and needs no clip
 pub record Hides (items : List Item) (unmasked : List Bool) (p : ℕ) : Type 0 where

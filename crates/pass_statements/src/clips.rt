@@ -10,16 +10,10 @@ pub struct ActiveClip {
     pub used: bool,
 }
 
-#[derive(Clone, Copy)]
-pub enum Current {
-    Nothing,
-    Active(ActiveClip),
-}
-
 // A draw: the clip, now perhaps used; whether the draw is masked off; whether it is drawn unclipped.
 #[derive(Clone, Copy)]
 pub struct Drawn {
-    pub cur: Current,
+    pub cur: Option<ActiveClip>,
     pub masked: bool,
     pub unclipped: bool,
 }
@@ -27,7 +21,7 @@ pub struct Drawn {
 // The clip after a layer that may lie past its end: whether it ended unused, and where it stands.
 #[derive(Clone, Copy)]
 pub struct Closed {
-    pub cur: Current,
+    pub cur: Option<ActiveClip>,
     pub unused: bool,
     pub at: Index,
 }
@@ -35,7 +29,7 @@ pub struct Closed {
 // One turn of the pass.
 #[derive(Clone, Copy)]
 pub struct Step {
-    pub cur: Current,
+    pub cur: Option<ActiveClip>,
     pub masked: bool,
     pub unclipped: bool,
     pub unused: bool,

@@ -6,7 +6,6 @@ pub mod clips;
 pub mod covered;
 pub mod decide;
 pub mod item;
-pub mod unchanged;
 
 // A position in the list. It is not a layer id.
 #[derive(Clone, Copy)]

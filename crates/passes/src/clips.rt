@@ -7,7 +7,7 @@ ghost use Rattle.pass_statements.specs.Item.{items_of, EntryColumns};
 ghost use Rattle.pass_statements.specs.Clips.{mask_off, unmasked_after, last_clip, Marking};
 
 use pass_statements::Index;
-use pass_statements::clips::{Current, Step};
+use pass_statements::clips::{ActiveClip, Step};
 use tile_unchanged::item;
 
 // Masks off the entry i, if there is one, where `off` says so.
@@ -23,15 +23,11 @@ fn mask_off(unmasked: &mut [bool], i: Index, off: bool)
 }
 
 // A clip that is still current when the list ends, and was not used, is masked off.
-fn mask_last(unmasked: &mut [bool], cur: Current)
+fn mask_last(unmasked: &mut [bool], cur: Option<ActiveClip>)
     ensures { unmasked.new ≡ last_clip cur unmasked.old }
 {
-    match cur {
-        Current::Nothing => {}
-        Current::Active(k) => {
-            let at = k.at;
-            mask_off(unmasked, at, !k.used);
-        }
+    if let Some(clip) = cur {
+        mask_off(unmasked, clip.at, !clip.used);
     }
 }
 
@@ -53,11 +49,7 @@ pub fn fill(column: &mut [bool], n: usize, mark: bool)
     requires { n ≤ length column.old }
     ensures { column.new ≡ over (replicate n mark) column.old }
 {
-    let mut i = 0;
-    while i < n {
-        column[i] = mark;
-        i += 1;
-    }
+    column[..n].fill(mark);
 }
 
 // The pass: which layers are not masked off, and which clipped draws are drawn unclipped.
@@ -80,15 +72,13 @@ pub fn skip_trivial_clips_pass(
 {
     fill(unmasked, n, true);
     fill(unclipped, n, false);
-    let mut cur = Current::Nothing;
-    let mut i: usize = 0;
-    while i < n {
+    let mut cur = None;
+    for i in 0..n {
         let at = Index(i);
         let x = item::item_at(ids, covers, flags, n, layers, colors, count, at);
         let s = trivial_clip_steps::clip_step(x, cur, at);
         mark(unmasked, unclipped, at, s);
         cur = s.cur;
-        i += 1;
     }
     mask_last(unmasked, cur);
 }

@@ -50,10 +50,8 @@ fn are_clips_unchanged(
         (entries_of n ids.now covers.now flags.now)) }
 {
     let mut ok = true;
-    let mut i = 0;
-    while i < n {
-        ok = ok & is_clip_unchanged(ids, covers, flags, n, layers, colors, count, Index(i));
-        i += 1;
+    for i in 0..n {
+        ok &= is_clip_unchanged(ids, covers, flags, n, layers, colors, count, Index(i));
     }
     ok
 }
@@ -108,9 +106,7 @@ pub fn skip_fully_covered_layers_pass(
         unclipped.now removed }
 {
     let mut found = start(ids, covers, flags, n, layers, colors, count, removed);
-    let mut i = n;
-    while 0 < i {
-        i -= 1;
+    for i in (0..n).rev() {
         if unmasked[i] {
             let at = Index(i);
             let x = item::item_at(ids, covers, flags, n, layers, colors, count, at);

@@ -1,6 +1,5 @@
 // The decision about a tile, from its list.
 ghost use Rattle.std.specs.Prelude.{◌≡◌, ◌≤◌, length};
-ghost use Rattle.styling.specs.Style.{color_in};
 ghost use Rattle.layer_table.specs.Table.{Table, table_of};
 ghost use Rattle.pass_statements.specs.Entry.{entries_of};
 ghost use Rattle.pass_statements.specs.Item.{items_of, EntryColumns};
@@ -12,8 +11,7 @@ ghost use Rattle.pass_statements.specs.Decide.{Deciding};
 use crate::{clips, covered};
 use pass_statements::Index;
 use pass_statements::decide::{Bottom, Decided, Decision};
-use pass_statements::unchanged::PreviousCount;
-use styling::{Color, Paint};
+use styling::Color;
 use tile_unchanged::item;
 
 pub fn code_of(decision: Decision) -> u32
@@ -23,15 +21,6 @@ pub fn code_of(decision: Decision) -> u32
         Decision::None => 0,
         Decision::Solid(_, _) => 1,
         Decision::Paint => 2,
-    }
-}
-
-fn is_color(paint: Paint) -> bool
-    ensures { result ≡ has_color (color_in paint) }
-{
-    match paint {
-        Paint::Color(_) => true,
-        Paint::Absent => false,
     }
 }
 
@@ -56,15 +45,12 @@ fn are_solid(
 {
     let mut ok = true;
     let mut left = below;
-    let mut i = skipped.0;
-    while i < n {
-        let at = i;
-        i += 1;
-        if unmasked[at] {
+    for i in skipped.0..n {
+        if unmasked[i] {
             if left == 0 {
-                let x = item::item_at(ids, covers, flags, n, layers, colors, count, Index(at));
+                let x = item::item_at(ids, covers, flags, n, layers, colors, count, Index(i));
                 let func = x.func;
-                ok = ok & is_color(func.solid_color());
+                ok &= func.solid_color().is_some();
             } else {
                 left -= 1;
             }
@@ -182,7 +168,7 @@ fn run_passes(
 pub fn decide(
     clear: Color,
     clear_unchanged: bool,
-    previous: PreviousCount,
+    previous: Option<u32>,
     ids: &[u32],
     covers: &[i8],
     flags: &[bool],

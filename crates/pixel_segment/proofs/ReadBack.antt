@@ -1,6 +1,8 @@
 -- What is packed reads back, for every table of widths: each field has the number that was packed there, modulo its width, and the number
 -- itself where it is in range. So an accepted word tells its seven numbers. Assumes nothing.
-use Rattle.std.specs.Prelude.{◌≡◌, ◌∷◌, ◌+◌, ◌-◌, ◌*◌, ◌/◌, ◌%◌, ◌^◌, ◌≤◌, ◌<◌}
+use Rattle.pixel_segment.specs.declared.PixelSegment.{PixelSegment}
+use Rattle.refusals.specs.declared.Refusal.{Refusal}
+use Rattle.std.specs.Prelude.{◌≡◌, ◌∷◌, ◌+◌, ◌-◌, ◌*◌, ◌/◌, ◌%◌, ◌^◌, ◌≤◌, ◌<◌, Result}
 use Rattle.laws.proofs.Prelude.{refl, ap, sym, subst, ◌∙◌, Bool, true, false, cond, List, [], ℕ, zero, suc}
 use Rattle.laws.proofs.Prelude.{not-suc-le-zero, le_of_suc-le-suc, zero-add, add-zero, div-eq_of_lt, mod-lt, mod-eq_of_lt, arith, digits_lt}
 use Rattle.laws.proofs.Prelude.{lit<, ℤ, pos, negsuc, length, get_or, drop, pow_pos, pow-add, Answer, given, refused, plus, minus, modℤ, difference}
@@ -9,7 +11,6 @@ use Rattle.std.proofs.Common.{mul_assoc, add-mul, add_comm, mul-one}
 use native.Mathlib.Nat.{add-mul-div_right, add-mul-mod_self_right, mod-mod}
 use Rattle.pixel_segment.specs.Field.{sum, width_of, field_of, tile_x_of, tile_y_of, layer_id_of, local_x_of, local_y_of, multiplier_of, tile_of, signed_of, cover_of}
 use Rattle.pixel_segment.specs.Pack.{join, stored_of, word_of, is_packable, FieldsInRange, packed_answer, pack_of, ReadsBack, PacksTo, Packs, Same}
-use Rattle.pixel_segment.specs.declared.Packed.{Packed}
 use Rattle.pixel_segment.proofs.Widths.{sum_step, sum_drop_le}
 use Rattle.pixel_segment.proofs.Ranges.{halves, in_range_lem}
 use Rattle.pixel_segment.specs.Layout.{Layout}
@@ -153,7 +154,7 @@ module _ (ws : List ℕ) (layout : Layout ws) (layer tx ty x y m c : ℤ) where
   pub packs_to : (a : Answer ℕ) → a ≡ pack_of ws layer tx ty x y m c → PacksTo ws layer tx ty x y m c a
   packs_to a e = record { answer = e; back = λ w f. given_back (sym e ∙ f) }
 
-  pub packs : (r : Packed) → packed_answer r ≡ pack_of ws layer tx ty x y m c → Packs ws layer tx ty x y m c r
+  pub packs : (r : Result PixelSegment Refusal) → packed_answer r ≡ pack_of ws layer tx ty x y m c → Packs ws layer tx ty x y m c r
   packs r e = packs_to (packed_answer r) e
 
 -- ---- two packings

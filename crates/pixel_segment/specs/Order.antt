@@ -1,10 +1,10 @@
 -- The order of segments. Stands for 'order compares only the upper 44 bits: tile y, tile x, layer'. How two keys compare is a number,
 -- the rank of the first: 0 below the second, 1 equal to it, 2 above it.
+use Rattle.std.specs.declared.cmp.Ordering.{Ordering}
+use Rattle.std.specs.declared.cmp.Ordering.TheVariants.{Less, Equal, Greater}
 use Rattle.std.specs.Prelude.{◌/◌, ◌^◌}
 use Rattle.laws.specs.Prelude.{Bool, true, false, cond, List, ℕ, zero, suc, ltb, ℤ, lt_z}
 use Rattle.pixel_segment.specs.Field.{shift_of}
-use Rattle.pixel_segment.specs.declared.order.Ordering.{Ordering}
-use Rattle.pixel_segment.specs.declared.order.Ordering.TheVariants.{Less, Equal, Greater}
 
 -- the bits that order compares: the fields down to the layer id
 abbrev pub order_key : List ℕ → ℕ → ℕ

@@ -1,12 +1,13 @@
 -- Packing: seven numbers in a word, each in a field that holds it; where one lies outside its field's range, packing is refused by 11.
 -- Stands for W-203: tile numbers are taken from -1 and stored plus 1, layer ids, local places and multipliers from 0, covers are signed, and
 -- each field reads back as the number that was packed. Every definition takes the table of widths as a parameter.
-use Rattle.std.specs.Prelude.{◌≡◌, ◌&&◌, ◌∷◌, ◌+◌, ◌-◌, ◌*◌, ◌/◌, ◌%◌, ◌^◌, ◌≤◌, ◌<◌, ◌+ℤ◌}
+use Rattle.pixel_segment.specs.declared.PixelSegment.{PixelSegment}
+use Rattle.refusals.specs.Refusal.{number_of}
+use Rattle.refusals.specs.declared.Refusal.{Refusal}
+use Rattle.std.specs.Prelude.{◌≡◌, ◌&&◌, ◌∷◌, ◌+◌, ◌-◌, ◌*◌, ◌/◌, ◌%◌, ◌^◌, ◌≤◌, ◌<◌, ◌+ℤ◌, Result, Ok, Err}
 use Rattle.laws.specs.Prelude.{Bool, cond, List, [], ℕ, ℤ, pos, negsuc, neg_ℤ, le_z, lt_z}
 use Rattle.laws.specs.Prelude.{plus, minus, modℤ, Answer, refused, given}
 use Rattle.pixel_segment.specs.Field.{width_of, tile_of, tile_x_of, tile_y_of, layer_id_of, local_x_of, local_y_of, multiplier_of, cover_of}
-use Rattle.pixel_segment.specs.declared.Packed.{Packed}
-use Rattle.pixel_segment.specs.declared.Packed.TheVariants.{Segment, FieldOutOfRange}
 
 -- ---- the word
 
@@ -66,9 +67,9 @@ pub record FieldsInRange (ws : List ℕ) (layer tx ty x y m c : ℤ) : Type 0 wh
 -- ---- what packing answers
 
 -- in the numbers of the table of refusals
-abbrev pub packed_answer : Packed → Answer ℕ
-packed_answer (Segment s) = given s.0
-packed_answer FieldOutOfRange = refused 11
+abbrev pub packed_answer : Result PixelSegment Refusal → Answer ℕ
+packed_answer (Ok s) = given s.0
+packed_answer (Err r) = refused (number_of r)
 
 abbrev pub pack_of : List ℕ → ℤ → ℤ → ℤ → ℤ → ℤ → ℤ → ℤ → Answer ℕ
 pack_of ws layer tx ty x y m c = cond (is_packable ws layer tx ty x y m c) (given (word_of ws (plus layer) tx ty (plus x) (plus y) (plus m) c)) (refused 11)
@@ -88,7 +89,7 @@ pub record PacksTo (ws : List ℕ) (layer tx ty x y m c : ℤ) (a : Answer ℕ) 
   pub answer : a ≡ pack_of ws layer tx ty x y m c
   pub back : (w : ℕ) → a ≡ given w → ReadsBack ws w layer tx ty x y m c
 
-abbrev pub Packs : List ℕ → ℤ → ℤ → ℤ → ℤ → ℤ → ℤ → ℤ → Packed → Type 0
+abbrev pub Packs : List ℕ → ℤ → ℤ → ℤ → ℤ → ℤ → ℤ → ℤ → Result PixelSegment Refusal → Type 0
 Packs ws layer tx ty x y m c r = PacksTo ws layer tx ty x y m c (packed_answer r)
 
 -- seven numbers that are the same in both

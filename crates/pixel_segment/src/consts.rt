@@ -60,10 +60,8 @@ pub fn shift(layout: Layout, field: BitField) -> u32
     ensures { result ≡ shift_of (widths_of layout) (index_of field) }
 {
     let mut amount: u32 = 0;
-    let mut i = index(field) + 1;
-    while i < 7 {
+    for i in index(field) + 1..7 {
         amount += width(layout, i);
-        i += 1;
     }
     amount
 }

@@ -13,18 +13,12 @@ ghost use Rattle.pixel_segment.specs.Pack.{stored_of, word_of, Packs};
 ghost use Rattle.pixel_segment.specs.Order.{rank, order_key, compare_of};
 
 use consts::{BitField, Layout};
-use order::Ordering;
+use refusals::Refusal;
+use std::cmp::Ordering;
 
 // A packed word. Any 64 bits are a segment.
 #[derive(Clone, Copy)]
 pub struct PixelSegment(pub u64);
-
-// What packing answers: the segment, or refusal 11, where a number lies outside its field's range.
-#[derive(Clone, Copy)]
-pub enum Packed {
-    Segment(PixelSegment),
-    FieldOutOfRange,
-}
 
 // A tile number as it is stored: plus 1, and 0 for what is then negative.
 pub fn stored(tile: i16) -> u64
@@ -79,7 +73,7 @@ pub fn pack_in(
     local_y: i64,
     double_area_multiplier: i64,
     cover: i64,
-) -> Packed
+) -> Result<PixelSegment, Refusal>
     ensures { Packs (widths_of layout)
         layer_id tile_x tile_y local_x local_y double_area_multiplier cover result }
 {
@@ -93,7 +87,7 @@ pub fn pack_in(
         double_area_multiplier,
         cover,
     ) {
-        return Packed::FieldOutOfRange;
+        return Err(Refusal::Fields);
     }
     let word = join(
         layout,
@@ -105,7 +99,7 @@ pub fn pack_in(
         double_area_multiplier as u8,
         cover as i8,
     );
-    Packed::Segment(PixelSegment(word))
+    Ok(PixelSegment(word))
 }
 
 // The same of numbers as the Rust takes them.
@@ -118,7 +112,7 @@ pub fn new_in(
     local_y: u8,
     double_area_multiplier: u8,
     cover: i8,
-) -> Packed
+) -> Result<PixelSegment, Refusal>
     ensures { Packs (widths_of layout) (pos layer_id) tile_x tile_y
         (pos local_x) (pos local_y) (pos double_area_multiplier) cover result }
 {
@@ -144,7 +138,7 @@ impl PixelSegment {
         local_y: i64,
         double_area_multiplier: i64,
         cover: i64,
-    ) -> Packed
+    ) -> Result<PixelSegment, Refusal>
         ensures { Packs cpu
             layer_id tile_x tile_y local_x local_y double_area_multiplier cover result }
     {
@@ -168,7 +162,7 @@ impl PixelSegment {
         local_y: u8,
         double_area_multiplier: u8,
         cover: i8,
-    ) -> Packed
+    ) -> Result<PixelSegment, Refusal>
         ensures { Packs cpu (pos layer_id) tile_x tile_y
             (pos local_x) (pos local_y) (pos double_area_multiplier) cover result }
     {

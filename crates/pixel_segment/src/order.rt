@@ -5,26 +5,13 @@ ghost use Rattle.pixel_segment.specs.Order.{rank, order_key, compare_of};
 
 use crate::consts;
 use crate::consts::{BitField, Layout};
-
-#[derive(Clone, Copy)]
-pub enum Ordering {
-    Less,
-    Equal,
-    Greater,
-}
+use std::cmp::Ordering;
 
 // How an unsigned number compares with another.
 pub fn compare(a: u64, b: u64) -> Ordering
     ensures { rank result ≡ compare_of a b }
 {
-    if a < b {
-        return Ordering::Less;
-    }
-    if b < a {
-        Ordering::Greater
-    } else {
-        Ordering::Equal
-    }
+    a.cmp(&b)
 }
 
 // How two words compare: by tile y, tile x and layer id, the bits from the layer id up.

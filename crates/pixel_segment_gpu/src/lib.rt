@@ -15,19 +15,13 @@ ghost use Rattle.pixel_segment.specs.Order.{rank, order_key, compare_of};
 ghost use Rattle.pixel_segment_gpu.specs.GpuPack.{gpu_packed_answer};
 
 use pixel_segment::consts::{BitField, Layout};
-use pixel_segment::order::Ordering;
-use pixel_segment::{Packed, PixelSegment, consts};
+use pixel_segment::{PixelSegment, consts};
+use refusals::Refusal;
+use std::cmp::Ordering;
 
 // A packed word. Any 64 bits are a segment.
 #[derive(Clone, Copy)]
 pub struct GpuSegment(pub u64);
-
-// What packing answers: the segment, or refusal 11, where a number lies outside its field's range.
-#[derive(Clone, Copy)]
-pub enum GpuPacked {
-    Segment(GpuSegment),
-    FieldOutOfRange,
-}
 
 impl GpuSegment {
     // Packing of the numbers that every field holds, and of no others.
@@ -39,11 +33,11 @@ impl GpuSegment {
         local_y: u8,
         double_area_multiplier: u8,
         cover: i8,
-    ) -> GpuPacked
+    ) -> Result<GpuSegment, Refusal>
         ensures { PacksTo gpu (pos layer_id) tile_x tile_y
             (pos local_x) (pos local_y) (pos double_area_multiplier) cover (gpu_packed_answer result) }
     {
-        let packed = pixel_segment::new_in(
+        let segment = pixel_segment::new_in(
             Layout::Gpu,
             layer_id,
             tile_x,
@@ -52,11 +46,8 @@ impl GpuSegment {
             local_y,
             double_area_multiplier,
             cover,
-        );
-        match packed {
-            Packed::Segment(segment) => GpuPacked::Segment(GpuSegment(segment.0)),
-            Packed::FieldOutOfRange => GpuPacked::FieldOutOfRange,
-        }
+        )?;
+        Ok(GpuSegment(segment.0))
     }
 
     pub fn layer_id(self) -> u32

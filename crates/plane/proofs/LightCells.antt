@@ -1,7 +1,7 @@
 -- The cells of a part that number 9 does not refuse, summed without loads: the loads are there in the proof alone, and bound each sum as they do
 -- where they are judged (cover_statements/proofs/Judging). Assumes nothing.
-use Rattle.std.specs.Prelude.{◌≡◌, ◌∷◌, ◌+◌, ◌*◌, ◌≤◌, ◌<◌, ◌+ℤ◌}
-use Rattle.laws.proofs.Prelude.{refl, ◌∙◌, true, List, [], map, ⊎_elim, ℕ, arith, ℤ, nat_abs, length, get_or}
+use Rattle.std.specs.Prelude.{◌≡◌, ◌+◌, ◌*◌, ◌≤◌, ◌<◌, ◌+ℤ◌}
+use Rattle.laws.proofs.Prelude.{refl, ◌∙◌, true, List, map, ⊎_elim, ℕ, arith, ℤ, nat_abs, length, get_or}
 use Rattle.laws.proofs.Prelude.{set, length-map, clash, le_or_lt}
 use Rattle.laws.proofs.Bools.{not-false}
 use Rattle.pixel_segment.specs.Field.{cpu, local_y_of, cover_of, double_area_of}
@@ -74,8 +74,3 @@ module _ {part : List ℕ} {i : ℕ} {areas covers : List ℤ} (c : LightCells p
 
 pub cells_end : {part : List ℕ} {i : ℕ} {areas covers : List ℤ} → LightCells part i areas covers → length part ≤ i → Accumulated cpu 16 part areas covers
 cells_end c h = record { areas_are = sum_whole c.areas_so_far h; covers_are = sum_whole c.covers_so_far h }
-
--- a part without segments
-pub no_segment : (part : List ℕ) → length part ≡ 0 → part ≡ []
-no_segment [] e = refl
-no_segment (w ∷ part) e = absurd (omega arith)

@@ -44,9 +44,8 @@ fn acc_segments(
     ensures { Judged cpu 16 incoming part.now result areas.new covers.new }
 {
     let mut loads = incoming;
-    let mut i = 0;
-    while i < part.len() {
-        let segment = PixelSegment(part[i]);
+    for word in part {
+        let segment = PixelSegment(*word);
         let cover = cover_of(segment);
         let k = cell(segment);
         let y = k % 16;
@@ -56,9 +55,8 @@ fn acc_segments(
             return false;
         }
         loads[y] = load;
-        areas[k] = areas[k] + area_of(segment, cover);
-        covers[k] = covers[k] + cover as i8;
-        i += 1;
+        areas[k] += area_of(segment, cover);
+        covers[k] += cover as i8;
     }
     true
 }
@@ -71,10 +69,8 @@ fn add_covers(covers: &[i8; 256], column: usize, sums: [i8; 16]) -> [i8; 16]
         ≡ tabulate 16 (λ y. cover_at sums y +ℤ cover_at covers.now (column * 16 + y)) }
 {
     let mut next = sums;
-    let mut y = 0;
-    while y < 16 {
+    for y in 0..16 {
         next[y] = sums[y] + covers[column * 16 + y];
-        y += 1;
     }
     next
 }
@@ -90,11 +86,9 @@ fn compute_doubled_areas(
     requires { Shadable 16 column areas.old covers.now sums }
     ensures { Shaded 16 column 16 areas.old covers.now sums areas.new result }
 {
-    let mut y = 0;
-    while y < 16 {
+    for y in 0..16 {
         let k = column * 16 + y;
-        areas[k] = 32 * (sums[y] as i16) + areas[k];
-        y += 1;
+        areas[k] += 32 * (sums[y] as i16);
     }
     add_covers(covers, column, sums)
 }
@@ -105,11 +99,9 @@ pub fn sum_columns(areas: &mut [i16; 256], covers: &[i8; 256], incoming: [i8; 16
     ensures { Summed cpu 16 incoming areas.old covers.now areas.new }
 {
     let mut sums = incoming;
-    let mut column = 0;
-    while column < 16 {
+    for column in 0..16 {
         let next = compute_doubled_areas(areas, covers, column, sums);
         sums = next;
-        column += 1;
     }
 }
 

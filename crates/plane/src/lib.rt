@@ -15,7 +15,7 @@ ghost use Rattle.cover_statements.specs.Mark.{mark_of};
 ghost use Rattle.cover_statements.specs.Paint.{part_plane, Painting};
 
 use cover::Cover;
-use cover_statements::painting::Painted;
+use refusals::Refusal;
 use styling::FillRule;
 
 // The doubled areas of a part, or false where number 9 refuses it. Of one that is known not to be refused they are
@@ -42,23 +42,23 @@ fn paint_judged(
     cover: Cover,
     rule: FillRule,
     plane: &mut [f32],
-) -> Painted
+) -> Result<u32, Refusal>
     requires { (256 ≤ length plane.old)
         × (is_known ≡ true → is_light cpu 16 cover.covers part.now ≡ true) }
     ensures { Painting cpu rule cover.covers part.now plane.old result
         plane.new }
 {
-    if part.len() == 0 {
+    if part.is_empty() {
         if !column::is_light(cover) {
-            return Painted::CoverTooLarge;
+            return Err(Refusal::Covers);
         }
-        return Painted::Mark(column::paint(cover, rule, plane));
+        return Ok(column::paint(cover, rule, plane));
     }
     let mut areas = [0i16; 256];
     if !sum_areas(is_known, part, cover, &mut areas) {
-        return Painted::CoverTooLarge;
+        return Err(Refusal::Covers);
     }
-    Painted::Mark(shade::paint(&mut areas, rule, plane))
+    Ok(shade::paint(&mut areas, rule, plane))
 }
 
 // The coverages of a part that nothing refuses, and their mark. It is not judged again.
@@ -67,20 +67,21 @@ pub fn paint(part: &[u64], cover: Cover, rule: FillRule, plane: &mut [f32]) -> u
     ensures { (plane.new ≡ over (part_plane cpu rule cover.covers part.now)
         plane.old) × (result ≡ mark_of (part_plane cpu rule cover.covers part.now)) }
 {
-    match paint_judged(true, part, cover, rule, plane) {
-        Painted::Mark(mark) => mark,
-        Painted::PlaneTooShort => 0,
-        Painted::CoverTooLarge => 0,
-    }
+    paint_judged(true, part, cover, rule, plane).unwrap()
 }
 
-// The coverages of any part, and their mark; or a refusal, which leaves the plane as it was.
-pub fn paint_part(part: &[u64], cover: Cover, rule: FillRule, plane: &mut [f32]) -> Painted
+// The coverages of any part, and their mark; or refusal 1 or 9, which leaves the plane as it was.
+pub fn paint_part(
+    part: &[u64],
+    cover: Cover,
+    rule: FillRule,
+    plane: &mut [f32],
+) -> Result<u32, Refusal>
     ensures { Painting cpu rule cover.covers part.now plane.old result
         plane.new }
 {
     if plane.len() < 256 {
-        Painted::PlaneTooShort
+        Err(Refusal::Room)
     } else {
         paint_judged(false, part, cover, rule, plane)
     }

@@ -17,14 +17,12 @@ fn add_segments(part: &[u64], incoming: Cover, areas: &mut [i16; 256], covers: &
         × (covers.old ≡ no_cells 16) }
     ensures { Accumulated cpu 16 part.now areas.new covers.new }
 {
-    let mut i = 0;
-    while i < part.len() {
-        let segment = PixelSegment(part[i]);
+    for word in part {
+        let segment = PixelSegment(*word);
         let cover = area::cover_of(segment);
         let k = area::cell(segment);
-        areas[k] = areas[k] + area::area_of(segment, cover);
-        covers[k] = covers[k] + cover as i8;
-        i += 1;
+        areas[k] += area::area_of(segment, cover);
+        covers[k] += cover as i8;
     }
 }
 

@@ -1,5 +1,5 @@
 -- A row that a search found, and one that it did not: where it stands, inside the segments. Assumes nothing.
-use Rattle.std.specs.Prelude.{◌≡◌, ◌+◌, ◌≤◌, ◌<◌, ◌-ℤ◌}
+use Rattle.std.specs.Prelude.{◌≡◌, ◌+◌, ◌≤◌, ◌<◌, ◌-ℤ◌, Option}
 use Rattle.laws.proofs.Prelude.{refl, ap, ap₂, sym, subst, ◌∙◌, Bool, true, false, cond, List, ℕ, arith, add-one, ℤ, pos, sub_ℕ}
 use Rattle.laws.proofs.Prelude.{length, get_or, take, length-take, w16, SFits, difference, taken, sfits}
 use Rattle.pixel_segment.specs.Field.{cpu, tile_of, tile_y_of}
@@ -8,7 +8,6 @@ use Rattle.segment_rows.specs.Search.{Place, found, absent, search_of, order_at,
 use Rattle.segment_rows.specs.declared.search.Key.TheVariants.{TileY, TileYNotNegative}
 use Rattle.segment_rows.proofs.Halving.{after_le, found_lt, found_equal}
 use Rattle.plate.specs.declared.Part.{Part}
-use Rattle.plate.specs.declared.Crop.{Crop}
 use Rattle.plate.specs.Crop.{is_in_crop}
 use Rattle.plate.specs.Rows.{cast_of, past_of, rows_start, place_by, row_place}
 use Rattle.plate.specs.Print.{skipped, row, print_row}
@@ -58,7 +57,7 @@ start_le l = by (search_of (order_at (TileYNotNegative false)) l) refl
     by (absent i) e = omega arith
 
 -- and so does what is printed of a row
-pub printed_inside : (crop : Crop) (j : ℕ) (l : List ℕ) (start end : ℕ) → row start end ≡ print_row crop j l → (start ≤ end) × (end ≤ length l)
+pub printed_inside : (crop : Option (ℕ × ℕ)) (j : ℕ) (l : List ℕ) (start end : ℕ) → row start end ≡ print_row crop j l → (start ≤ end) × (end ≤ length l)
 printed_inside crop j l start end e = by (is_in_crop crop j) e
   where
     by : (t : Bool) → row start end ≡ cond t (row (row_place (cast_of j) l).start (row_place (cast_of j) l).end) skipped → (start ≤ end) × (end ≤ length l)

@@ -1,5 +1,5 @@
 -- The rows of a plate one after another, and what holds of every plate. Assumes nothing.
-use Rattle.std.specs.Prelude.{◌≡◌, ◌&&◌, ◌∷◌, ◌++◌, ◌+◌, ◌-◌, ◌%◌, ◌≤◌, ◌<◌}
+use Rattle.std.specs.Prelude.{◌≡◌, ◌&&◌, ◌∷◌, ◌++◌, ◌+◌, ◌-◌, ◌%◌, ◌≤◌, ◌<◌, Option, None}
 use Rattle.laws.proofs.Prelude.{refl, ap, ap₂, sym, ◌∙◌, Bool, true, false, cond, not, and-true, ⊎_elim, List, [], ℕ, zero, suc}
 use Rattle.laws.proofs.Prelude.{arith, le-leb, lt-leb, leb-true, eq-eqb, ne_eqb, eqb-true, leb, eqb, ℤ, get_or, all, filter}
 use Rattle.laws.proofs.Prelude.{left, right, both, same, le_or_lt, all_at, all_intro, filter_all, filter_none, filter_ext, filter_twice}
@@ -18,8 +18,6 @@ use Rattle.plate.specs.Rows.{cast_of, place_by, row_place, not_negative, row_par
 use Rattle.plate.specs.Print as printing
 use Rattle.plate.specs.Print.{skipped, part_in, printed_part, printed_below}
 use Rattle.plate.specs.Sorted.{is_printed, RowsOf, InRows, RowEdges}
-use Rattle.plate.specs.declared.Crop.{Crop}
-use Rattle.plate.specs.declared.Crop.TheVariants.{Absent}
 use Rattle.plate.proofs.Finding.{found_tile}
 use Rattle.plate.proofs.Neighbours.{compares, is_row_lem, cast_again}
 use Rattle.plate.proofs.Sorted.{row_part_lem, not_negative_lem}
@@ -68,7 +66,7 @@ part_is l o j h =
     row_part_lem l o j ∙ ap (λ (n : ℕ). filter (λ w. eqb (tile_y_of cpu w) n) l) e
 
 -- a stored tile number is that of row j and in the crop exactly where row j is
-picked : (crop : Crop) (m j : ℕ) → ((leb 1 m && is_in_crop crop (m - 1)) && eqb m (suc j)) ≡ (is_in_crop crop j && eqb m (suc j))
+picked : (crop : Option (ℕ × ℕ)) (m j : ℕ) → ((leb 1 m && is_in_crop crop (m - 1)) && eqb m (suc j)) ≡ (is_in_crop crop j && eqb m (suc j))
 picked crop m j =
     same ((leb 1 m && is_in_crop crop (m - 1)) && eqb m (suc j)) (is_in_crop crop j && eqb m (suc j))
     (λ p.
@@ -85,7 +83,7 @@ picked crop m j =
     before : eqb m (suc j) ≡ true → m - 1 ≡ j
     before q = omega (arith, eqb-true m (suc j) q)
 
-module _ (crop : Crop) (l : List ℕ) (o : Ordered (tile_y_of cpu) l) where
+module _ (crop : Option (ℕ × ℕ)) (l : List ℕ) (o : Ordered (tile_y_of cpu) l) where
   -- what is not skipped by `for_each_row`, and what of it is in the crop
   rest : List ℕ
   rest = filter (λ w. leb 1 (tile_y_of cpu w)) l
@@ -107,7 +105,7 @@ module _ (crop : Crop) (l : List ℕ) (o : Ordered (tile_y_of cpu) l) where
     where
       inside : (w : ℕ) → (leb 1 (tile_y_of cpu w) && eqb (tile_y_of cpu w) (suc j)) ≡ eqb (tile_y_of cpu w) (suc j)
       inside w =
-          ap (λ (t : Bool). t && eqb (tile_y_of cpu w) (suc j)) (sym (and-true (leb 1 (tile_y_of cpu w)))) ∙ picked Absent (tile_y_of cpu w) j
+          ap (λ (t : Bool). t && eqb (tile_y_of cpu w) (suc j)) (sym (and-true (leb 1 (tile_y_of cpu w)))) ∙ picked None (tile_y_of cpu w) j
 
       by : (t : Bool) → part_in (cond t (printing.row (row_place (cast_of j) rest).start (row_place (cast_of j) rest).end) skipped) rest ≡ filter (λ w. t && eqb (tile_y_of cpu w) (suc j)) l
       by true =
@@ -149,8 +147,8 @@ sorted_rows l o =
       whole = λ crop n g h. rows_whole crop l o n g h;
       uncropped =
           λ n g h.
-          rows_whole Absent l o n g h
-          ∙ filter_ext (is_printed Absent) (λ w. leb 1 (tile_y_of cpu w)) l (λ w. and-true (leb 1 (tile_y_of cpu w)))
+          rows_whole None l o n g h
+          ∙ filter_ext (is_printed None) (λ w. leb 1 (tile_y_of cpu w)) l (λ w. and-true (leb 1 (tile_y_of cpu w)))
           ∙ sym (not_negative_lem l o);
       last = row_part_lem l o 65535;
     }

@@ -8,7 +8,6 @@ ghost use Rattle.plate.specs.Rows.{cast_of, rows_start, not_negative, row_place,
 ghost use Rattle.plate.specs.Crop.{is_in_crop};
 ghost use Rattle.plate.specs.Print.{printing_in, print_row, printed_part};
 
-use segment_rows::search::Found;
 use segment_rows::{parts, search};
 
 // Where a part of the segments starts, and where it ends: one past its last segment.
@@ -16,20 +15,6 @@ use segment_rows::{parts, search};
 pub struct Part {
     pub start: usize,
     pub end: usize,
-}
-
-// The rows that a crop leaves: all, or those from the first number up to the second, which is not among them.
-#[derive(Clone, Copy)]
-pub enum Crop {
-    Absent,
-    Rows(usize, usize),
-}
-
-// What `print_row` makes of a row: it is skipped, or printed from its part of the segments.
-#[derive(Clone, Copy)]
-pub enum Printed {
-    Skipped,
-    Row(Part),
 }
 
 // A row number as the Rust casts it, `j as i16`: its low 16 bits, signed.
@@ -45,8 +30,8 @@ pub fn find_not_negative(segments: &[u64]) -> usize
     ensures { result ≡ rows_start segments.now }
 {
     match search::search_last_by_tile_y_not_negative(segments, false) {
-        Found::At(last) => last + 1,
-        Found::Absent(_) => 0,
+        Ok(last) => last + 1,
+        Err(_) => 0,
     }
 }
 
@@ -65,14 +50,14 @@ pub fn find_row(segments: &[u64], j: usize) -> Part
 {
     let tile_y = cast(j);
     match search::search_last_by_tile_y(segments, tile_y) {
-        Found::At(last) => {
+        Ok(last) => {
             let start = parts::end_of(search::search_last_by_tile_y(&segments[..last], tile_y - 1));
             Part {
                 start: start,
                 end: last + 1,
             }
         },
-        Found::Absent(_) => Part { start: 0, end: 0 },
+        Err(_) => Part { start: 0, end: 0 },
     }
 }
 
@@ -92,34 +77,35 @@ pub fn in_row(segments: &[u64], j: usize) -> &[u64]
     slice_of(segments, find_row(segments, j))
 }
 
-// Whether row j is printed: `print_row` skips the rows outside a crop.
-pub fn is_in_crop(crop: Crop, j: usize) -> bool
+// Whether row j is printed: `print_row` skips the rows outside a crop. A crop leaves the rows from its first number up
+// to the second, which is not among them.
+pub fn is_in_crop(crop: Option<(usize, usize)>, j: usize) -> bool
     ensures { result ≡ is_in_crop crop j }
 {
     match crop {
-        Crop::Absent => true,
-        Crop::Rows(start, end) => (start <= j) & (j < end),
+        None => true,
+        Some((start, end)) => (start <= j) & (j < end),
     }
 }
 
-// Row j of the segments that `for_each_row` goes over: skipped where it is outside the crop, else printed from where it
-// stands.
-pub fn print_row(segments: &[u64], crop: Crop, j: usize) -> Printed
+// Row j of the segments that `for_each_row` goes over, where it stands: it is printed from there. None where it is
+// outside the crop: it is skipped.
+pub fn print_row(segments: &[u64], crop: Option<(usize, usize)>, j: usize) -> Option<Part>
     ensures { printing_in result ≡ print_row crop j segments.now }
 {
     if is_in_crop(crop, j) {
-        Printed::Row(find_row(segments, j))
+        Some(find_row(segments, j))
     } else {
-        Printed::Skipped
+        None
     }
 }
 
 // The segments that `print_row` prints row j from: none where it is skipped.
-pub fn to_print(segments: &[u64], crop: Crop, j: usize) -> &[u64]
+pub fn to_print(segments: &[u64], crop: Option<(usize, usize)>, j: usize) -> &[u64]
     ensures { result.now ≡ printed_part crop j segments.now }
 {
     match print_row(segments, crop, j) {
-        Printed::Row(part) => slice_of(segments, part),
-        Printed::Skipped => &segments[0..0],
+        Some(part) => slice_of(segments, part),
+        None => &segments[0..0],
     }
 }

@@ -4,7 +4,7 @@
 
 pub mod search;
 
-ghost use Rattle.std.specs.Prelude.{◌≡◌, min};
+ghost use Rattle.std.specs.Prelude.{◌≡◌};
 ghost use Rattle.queue_statements.specs.Queue.{are_columns_short, is_queue, queue_of, held_in, Queued};
 
 use cover::{Cover, entry};
@@ -19,12 +19,6 @@ pub fn is_short(ids: &[u32], covers: &[i8]) -> bool
     (ids.len() < LIMIT) | (covers.len() / 16 < LIMIT)
 }
 
-fn lesser(a: usize, b: usize) -> usize
-    ensures { result ≡ min a b }
-{
-    if a < b { a } else { b }
-}
-
 // Whether refusal 5 does not apply to a queue of `n` entries. `low` is the least id that may follow. No early exit: a
 // queue is in order more often than not.
 pub fn is_queue(ids: &[u32], n: usize) -> bool
@@ -33,15 +27,12 @@ pub fn is_queue(ids: &[u32], n: usize) -> bool
     if LIMIT < n {
         return false;
     }
-    let there = lesser(n, ids.len());
     let mut ok = true;
     let mut low: u64 = 0;
-    let mut i: usize = 0;
-    while i < there {
-        let id = ids[i] as u64;
-        ok = ok & (low <= id);
+    for id in &ids[..n.min(ids.len())] {
+        let id = *id as u64;
+        ok &= low <= id;
         low = id + 1;
-        i += 1;
     }
     ok
 }

@@ -50,8 +50,5 @@ pub fn is_at(ids: &[u32], n: usize, place: usize, id: u32) -> bool
     requires { n ≤ length ids.now }
     ensures { result ≡ holds_at id place (take n ids.now) }
 {
-    if place < n {
-        return ids[place] == id;
-    }
-    false
+    place < n && ids[place] == id
 }

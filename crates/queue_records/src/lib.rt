@@ -25,14 +25,14 @@ pub struct Columns {
 pub fn lesser(a: usize, b: usize) -> usize
     ensures { result ≡ min a b }
 {
-    if a < b { a } else { b }
+    a.min(b)
 }
 
 // How many records are counted, there, and have room in the columns.
 fn count_readable(count: usize, queue: usize, ids: usize, covers: usize) -> usize
     ensures { result ≡ readable count queue ids covers }
 {
-    lesser(lesser(count, queue), lesser(ids, covers / 16))
+    count.min(queue).min(ids.min(covers / 16))
 }
 
 // A record becomes entry `i` of the columns.
@@ -63,10 +63,8 @@ pub fn read_queue(queue: &[CarryRecord], count: usize, ids: &mut [u32], covers: 
         × (covers.new ≡ over (record_covers (take result queue.now)) covers.old) }
 {
     let n = count_readable(count, queue.len(), ids.len(), covers.len());
-    let mut i = 0;
-    while i < n {
+    for i in 0..n {
         put_record(record_at(queue, i), i, ids, covers);
-        i += 1;
     }
     n
 }
@@ -87,7 +85,7 @@ fn no_covers() -> [i8; 4096]
 fn columns_with(records: usize, ids: [u32; 256], covers: [i8; 4096]) -> Columns
     ensures { result ≡ record { entries = min records 256; ids = ids; covers = covers } }
 {
-    let entries = lesser(records, 256);
+    let entries = records.min(256);
     Columns {
         entries: entries,
         ids: ids,

@@ -12,7 +12,6 @@ pub mod Keys
 pub mod Tallying
 pub mod Lights
 pub mod Summing
-pub mod Copying
 pub mod Gathering
 pub mod Opened
 pub mod Examples

@@ -1,13 +1,13 @@
 -- The opening of a row (`paint_tile_row`): one carry for each layer that has segments left of the first tile, tile -1 included, whatever its sum:
 -- carries of zero are kept. The segments are added one after the other, as the Rust adds them to its map by layer id.
-use Rattle.std.specs.Prelude.{◌≡◌, ◌∷◌, ◌+ℤ◌}
+use Rattle.refusals.specs.Refusal.{number_of}
+use Rattle.refusals.specs.declared.Refusal.{Refusal}
+use Rattle.std.specs.Prelude.{◌≡◌, ◌∷◌, ◌+ℤ◌, Result, Ok, Err}
 use Rattle.laws.specs.Prelude.{Bool, cond, List, [], ℕ, eqb, ltb, ℤ, length, set, Answer, refused, given, all, over, filter}
 use Rattle.pixel_segment.specs.Field.{cpu, layer_id_of, local_y_of, cover_of}
 use Rattle.cover_statements.specs.Carry.{is_light}
 use Rattle.cover_statements.specs.Cover.{cover_at}
 use Rattle.queue_statements.specs.Queue.{Carry, zeros, ids_in, covers_in}
-use Rattle.queue_statements.specs.declared.Opening.{Opening}
-use Rattle.queue_statements.specs.declared.Opening.TheVariants.{Count, TooManyLayers, CoversTooLarge}
 
 -- a cover with that of the segment w added in its pixel row
 abbrev pub add_word : List ℤ → ℕ → List ℤ
@@ -42,12 +42,6 @@ abbrev pub open_answer : List ℕ → Answer ℕ
 open_answer left =
     cond (ltb 256 (length (open_queue left))) (refused 7)
     (cond (is_light_opening left) (given (length (open_queue left))) (refused 9))
-
--- the cases of the code's answer
-abbrev pub opening_answer : Opening → Answer ℕ
-opening_answer (Count n) = given n
-opening_answer TooManyLayers = refused 7
-opening_answer CoversTooLarge = refused 9
 
 -- the lent columns: the queue written over what they held, or as they were
 abbrev pub written_if {ℓ} : {A : Type ℓ} → Answer ℕ → List A → List A → List A

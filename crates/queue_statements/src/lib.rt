@@ -1,11 +1,3 @@
-// What an opening answers. The contracts and laws are in specs/ and proofs/; the functions are of queue,
-// opening_columns and queue_opening.
+// Queues of carries and their opening: the contracts and laws, in specs/ and proofs/; the functions are of queue,
+// opening_columns and queue_opening. No code stands here.
 #![tactic(auto)]
-
-// What an opening answers: how many carries, or refusal 7 or 9.
-#[derive(Clone, Copy)]
-pub enum Opening {
-    Count(usize),
-    TooManyLayers,
-    CoversTooLarge,
-}

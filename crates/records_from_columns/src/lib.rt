@@ -30,10 +30,8 @@ pub fn records_of(ids: [u32; 256], covers: [i8; 4096]) -> [CarryRecord; 256]
         covers: [0; 16],
     };
     let mut queue = [none; 256];
-    let mut i = 0;
-    while i < 256 {
-        queue[i] = record_from(&ids, &covers, i);
-        i += 1;
+    for (i, carry) in queue.iter_mut().enumerate() {
+        *carry = record_from(&ids, &covers, i);
     }
     queue
 }

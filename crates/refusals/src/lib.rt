@@ -23,13 +23,6 @@ pub enum Refusal {
     Revisions,
 }
 
-// What a judge says: pass, or the lowest refusal that applies.
-#[derive(Clone, Copy)]
-pub enum Verdict {
-    Pass,
-    Refuse(Refusal),
-}
-
 // The number of a refusal.
 pub fn number_of(refusal: Refusal) -> u32
     ensures { result ≡ number_of refusal }

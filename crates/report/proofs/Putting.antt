@@ -1,25 +1,23 @@
 -- Each answer of `put`, and the part of a buffer that holds a line.
 -- Assumes nothing.
-use Rattle.std.specs.Prelude.{◌≡◌, ◌+◌, ◌<◌, ◌≤◌}
-use Rattle.laws.proofs.Prelude.{sym, ap, subst, ◌∙◌, List, some, ℕ, arith, le-leb, lt-leb, leb-true, length, take, drop, sets-eq}
+use Rattle.std.specs.Prelude.{◌≡◌, ◌+◌, ◌<◌, ◌≤◌, Option, None}
+use Rattle.laws.proofs.Prelude.{sym, ap, subst, ◌∙◌, List, Some, ℕ, arith, le-leb, lt-leb, leb-true, length, take, drop, sets-eq}
 use Rattle.laws.proofs.Prelude.{take_at, length-sets, length-take-le}
 use Rattle.decimal.specs.Print.{Printing}
 use Rattle.decimal.proofs.Steps.{cases}
-use Rattle.report.specs.declared.Printed.{Printed}
-use Rattle.report.specs.declared.Printed.TheVariants.{Next, Full}
 use Rattle.report.specs.Put.{has_room_at, Put, LineWritten}
 use Rattle.report.proofs.Lines.{at_front}
 
-pub full : {text out : List ℕ} {at : ℕ} → length out < at + length text → Put text out at Full out
+pub full : {text out : List ℕ} {at : ℕ} → length out < at + length text → Put text out at None out
 full {text} {out} {at} h = let e = lt-leb (at + length text) (length out) h in record { answer = rw e; printed = rw e }
 
-pub next : {text out out' : List ℕ} {at i : ℕ} → at + length text ≤ length out → Printing text out at i out' → Put text out at (Next i) out'
+pub next : {text out out' : List ℕ} {at i : ℕ} → at + length text ≤ length out → Printing text out at i out' → Put text out at (Some i) out'
 next {text} {out} {out'} {at} h p =
     let e = le-leb (at + length text) (length out) h in
-    record { answer = rw e (ap some p.answer); printed = rw e p.printed }
+    record { answer = rw e (ap Some p.answer); printed = rw e p.printed }
 
 -- the place after the text lies in the buffer
-pub within : {text out out' : List ℕ} {at i : ℕ} → Put text out at (Next i) out' → i ≤ length out
+pub within : {text out out' : List ℕ} {at i : ℕ} → Put text out at (Some i) out' → i ≤ length out
 within {text} {out} {at = at} {i = i} p =
     cases (has_room_at text out at)
     (λ e. let q : i ≡ at + length text = let a = rw e at p.answer in cc in omega (arith, leb-true (at + length text) (length out) e))
@@ -37,7 +35,7 @@ pub front : {text out out' : List ℕ} {r : ℕ} → LineWritten text out r out'
 front {text} {out} {out'} {r} w =
     ap (take r) (w.written ∙ sets-eq text out 0 (omega (arith, w.fits))) ∙ take_at text (drop (0 + length text) out) r (sym w.answer)
 
-pub put_line : {text part buffer buffer' out out' : List ℕ} {at i : ℕ} {r : Printed} → LineWritten text buffer i buffer' → part ≡ take i buffer'
+pub put_line : {text part buffer buffer' out out' : List ℕ} {at i : ℕ} {r : Option ℕ} → LineWritten text buffer i buffer' → part ≡ take i buffer'
     → Put part out at r out' → Put text out at r out'
 put_line {out = out} {out' = out'} {at = at} {r = r} w e p = subst (λ (t : List ℕ). Put t out at r out') (e ∙ front w) p
 

@@ -1,20 +1,13 @@
 -- What printing into a lent buffer promises: the line stands from place `at` on and the other entries are as they were, where it has room, and
 -- else the buffer is as it was.
 use Rattle.std.specs.Prelude.{◌≡◌, ◌+◌, ◌≤◌}
-use Rattle.laws.specs.Prelude.{Bool, cond, List, Option, some, none, ℕ, leb, length, sets}
-use Rattle.report.specs.declared.Printed.{Printed}
-use Rattle.report.specs.declared.Printed.TheVariants.{Next, Full}
+use Rattle.laws.specs.Prelude.{Bool, cond, List, Option, Some, None, ℕ, leb, length, sets}
 
 abbrev pub has_room_at : List ℕ → List ℕ → ℕ → Bool
 has_room_at text out at = leb (at + length text) (length out)
 
--- the cases of the answer
-abbrev pub place_after : Printed → Option ℕ
-place_after (Next i) = some i
-place_after Full = none
-
-pub record Put (text out : List ℕ) (at : ℕ) (r : Printed) (out' : List ℕ) : Type 0 where
-  pub answer : place_after r ≡ cond (has_room_at text out at) (some (at + length text)) none
+pub record Put (text out : List ℕ) (at : ℕ) (r : Option ℕ) (out' : List ℕ) : Type 0 where
+  pub answer : r ≡ cond (has_room_at text out at) (Some (at + length text)) None
   pub printed : out' ≡ cond (has_room_at text out at) (sets out at text) out
 
 -- what the inner writers promise: the line stands at the front, and its length is answered

@@ -11,12 +11,9 @@ pub fn print_bytes(out: &mut [u8], at: usize, src: &[u8]) -> usize
     requires { at + length src.now ≤ length out.old }
     ensures { Printing src.now out.old at result out.new }
 {
-    let mut j: usize = 0;
-    while j < src.len() {
-        out[at + j] = src[j];
-        j += 1;
-    }
-    at + j
+    let end = at + src.len();
+    out[at..end].copy_from_slice(src);
+    end
 }
 
 // Prints a number and the byte that ends its field.

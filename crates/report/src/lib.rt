@@ -26,35 +26,27 @@ pub struct TileLine {
     pub carried: u32,
 }
 
-#[derive(Clone, Copy)]
-pub enum Printed {
-    // The place after the line.
-    Next(usize),
-    // The buffer has no room for the line, and is as it was.
-    Full,
-}
-
 // Prints a text from place `at` on, where it has room.
-pub fn put(out: &mut [u8], at: usize, text: &[u8]) -> Printed
+pub fn put(out: &mut [u8], at: usize, text: &[u8]) -> Option<usize>
     ensures { Put text.now out.old at result out.new }
 {
     if out.len() < at {
-        return Printed::Full;
+        return None;
     }
     if out.len() - at < text.len() {
-        return Printed::Full;
+        return None;
     }
-    Printed::Next(fields::print_bytes(out, at, text))
+    Some(fields::print_bytes(out, at, text))
 }
 
 // The line of names.
-pub fn print_names(out: &mut [u8], at: usize) -> Printed
+pub fn print_names(out: &mut [u8], at: usize) -> Option<usize>
     ensures { Put tile_names out.old at result out.new }
 {
     put(out, at, b"tile op listed shown octets carried\n")
 }
 
-pub fn print_tile(out: &mut [u8], at: usize, line: TileLine) -> Printed
+pub fn print_tile(out: &mut [u8], at: usize, line: TileLine) -> Option<usize>
     ensures { Put (tile_text line) out.old at result out.new }
 {
     let mut text = [0u8; 64];
@@ -63,7 +55,7 @@ pub fn print_tile(out: &mut [u8], at: usize, line: TileLine) -> Printed
 }
 
 // The last line where a refusal ends the run.
-pub fn print_refusal(out: &mut [u8], at: usize, number: u32) -> Printed
+pub fn print_refusal(out: &mut [u8], at: usize, number: u32) -> Option<usize>
     ensures { Put (refusal_text number) out.old at result out.new }
 {
     let mut text = [0u8; 64];

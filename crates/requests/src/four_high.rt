@@ -1,12 +1,10 @@
 // W-213, tiles four pixels high: each example's name, and whether the answer is its own.
 use crate::printing::{number_in, print};
-use cover_gpu::painting::GpuPainted;
 use cover_gpu::{GpuCover, carry, painting as gpu_plane};
 use layer_row_gpu::tiles::Ended;
 use layer_row_gpu::{LayerRow, tiles};
-use pixel_segment::order::Ordering;
-use pixel_segment_gpu::{GpuPacked, GpuSegment, search};
-use segment_rows::search::{Found, Key};
+use pixel_segment_gpu::{GpuSegment, search};
+use segment_rows::search::Key;
 use std::io;
 use styling::FillRule;
 
@@ -14,8 +12,8 @@ use styling::FillRule;
 // stands for refusal 11.
 fn packs(tile_y: i16, local_y: u8, cover: i8, word: u64) -> bool {
     match GpuSegment::new(5, 2, tile_y, 3, local_y, 32, cover) {
-        GpuPacked::Segment(segment) => segment.0 == word,
-        GpuPacked::FieldOutOfRange => word == 0,
+        Ok(segment) => segment.0 == word,
+        Err(_) => word == 0,
     }
 }
 
@@ -39,26 +37,18 @@ fn print_words(rt: &impl Print) -> io::Result<()> {
     print(rt, b"tile y -2, 11", packs(-2, 3, 16, 0))
 }
 
-fn is_equal(order: Ordering) -> bool {
-    match order {
-        Ordering::Less => false,
-        Ordering::Equal => true,
-        Ordering::Greater => false,
-    }
-}
-
 // Whether a layer is found at a place among layers 1, 3, 3, 3, 7, or absent there.
 fn finds(layer_id: u32, is_found: bool, place: usize) -> bool {
     let words = [0x40000u64, 0xC0000, 0xC0000, 0xC0000, 0x1C0000];
     match search::search_last_by_key(&words, Key::LayerId(layer_id)) {
-        Found::At(i) => is_found & (i == place),
-        Found::Absent(i) => !is_found & (i == place),
+        Ok(i) => is_found & (i == place),
+        Err(i) => !is_found & (i == place),
     }
 }
 
 fn print_order(rt: &impl Print) -> io::Result<()> {
     let order = GpuSegment(0x000801800014F810).cmp(GpuSegment(0x000801800017C020));
-    print(rt, b"equal in the upper 46 bits", is_equal(order))?;
+    print(rt, b"equal in the upper 46 bits", order.is_eq())?;
     print(rt, b"layer 3 found at 3", finds(3, true, 3))?;
     print(rt, b"layer 0 absent at 0", finds(0, false, 0))?;
     print(rt, b"layer 4 absent at 4", finds(4, false, 4))?;
@@ -94,15 +84,6 @@ fn print_covers(rt: &impl Print) -> io::Result<()> {
     )
 }
 
-// 0, or the number of the refusal.
-fn painted(answer: GpuPainted) -> u32 {
-    match answer {
-        GpuPainted::Done => 0,
-        GpuPainted::PlaneTooShort => 1,
-        GpuPainted::CoverTooLarge => 9,
-    }
-}
-
 fn print_coverages(rt: &impl Print) -> io::Result<()> {
     let part = [0x0008018000161430u64];
     let mut places = [0.25f32; 64];
@@ -113,14 +94,14 @@ fn print_coverages(rt: &impl Print) -> io::Result<()> {
     print(
         rt,
         b"half a pixel at place 24",
-        (painted(answer) == 0) & left & right & below,
+        (number_in(answer) == 0) & left & right & below,
     )?;
     let mut few = [0.25f32; 63];
     let refused = gpu_plane::paint_part(&part, cover_of(16, 16), FillRule::NonZero, &mut few);
     print(
         rt,
         b"a plane of 63, 1",
-        (painted(refused) == 1) & (few[0] == 0.25),
+        (number_in(refused) == 1) & (few[0] == 0.25),
     )
 }
 

@@ -1,5 +1,5 @@
 // The lines of a program that runs worked examples: a name, and whether the example gave what it should.
-use refusals::Verdict;
+use refusals::Refusal;
 use std::io;
 
 pub fn print(rt: &impl Print, name: &[u8], ok: bool) -> io::Result<()> {
@@ -12,9 +12,9 @@ pub fn print(rt: &impl Print, name: &[u8], ok: bool) -> io::Result<()> {
 }
 
 // 0, or the number of the refusal.
-pub fn number_in(verdict: Verdict) -> u32 {
+pub fn number_in(verdict: Result<(), Refusal>) -> u32 {
     match verdict {
-        Verdict::Pass => 0,
-        Verdict::Refuse(refusal) => refusals::number_of(refusal),
+        Ok(()) => 0,
+        Err(refusal) => refusals::number_of(refusal),
     }
 }

@@ -1,13 +1,13 @@
 // W-210, outlines run backwards: a row and the row with every cover negated, driven, and whether their lines are the
 // same.
-use pixel_segment::{Packed, PixelSegment};
-use row_lines::Driven;
+use pixel_segment::PixelSegment;
+use refusals::Refusal;
 use std::io;
 
 fn word(layer: u32, tile_x: i16, local_y: u8, cover: i8) -> u64 {
     match PixelSegment::new(layer, tile_x, 0, 3, local_y, 20, cover) {
-        Packed::Segment(segment) => segment.0,
-        Packed::FieldOutOfRange => 0,
+        Ok(segment) => segment.0,
+        Err(_) => 0,
     }
 }
 
@@ -53,10 +53,10 @@ fn bands(first: i8, second: i8, third: i8, fourth: i8) -> [u64; 64] {
     band(three, 48, 1, 2, fourth)
 }
 
-fn is_done(driven: Driven) -> bool {
+fn is_done(driven: Result<usize, (Refusal, usize)>) -> bool {
     match driven {
-        Driven::Done(tiles) => tiles == 4,
-        Driven::Refused(_, _) => false,
+        Ok(tiles) => tiles == 4,
+        Err((_, _)) => false,
     }
 }
 

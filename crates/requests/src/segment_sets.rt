@@ -125,13 +125,10 @@ fn area_due(k: usize, row: Row) -> i16 {
 }
 
 fn are_areas(areas: [i16; 256], row: Row) -> bool {
-    let mut ok = true;
-    let mut k = 0;
-    while k < 256 {
-        ok = ok & (areas[k] == area_due(k, row));
-        k += 1;
-    }
-    ok
+    areas
+        .iter()
+        .enumerate()
+        .all(|(k, area)| *area == area_due(k, row))
 }
 
 fn cover_due(y: usize, row: Row) -> i8 {
@@ -140,13 +137,10 @@ fn cover_due(y: usize, row: Row) -> i8 {
 
 fn is_carry(carry: Cover, row: Row) -> bool {
     let covers = carry.covers;
-    let mut ok = true;
-    let mut y = 0;
-    while y < 16 {
-        ok = ok & (covers[y] == cover_due(y, row));
-        y += 1;
-    }
-    ok
+    covers
+        .iter()
+        .enumerate()
+        .all(|(y, cover)| *cover == cover_due(y, row))
 }
 
 fn load_at(loads: [u16; 16], y: usize) -> u16 {

@@ -1,13 +1,13 @@
 // W-212, which layer record stands: each example's name, and whether the answer and the ids of the table are its own.
 use crate::printing::print;
-use revision_statements::Standing;
+use refusals::Refusal;
 use std::io;
 
 // How many layers stand, or 100 and the number of the refusal.
-fn told(answer: Standing) -> usize {
+fn told(answer: Result<usize, Refusal>) -> usize {
     match answer {
-        Standing::Layers(n) => n,
-        Standing::Refused(refusal) => tell(refusals::number_of(refusal)),
+        Ok(n) => n,
+        Err(refusal) => tell(refusals::number_of(refusal)),
     }
 }
 

@@ -1,12 +1,11 @@
 -- What the operation answers and leaves: 'it refuses two records of one layer with equal revisions with 15, an out-of-range id, code or span with
 -- 4, and a lent table too short for the standing layers with 1; 4 is judged first, then 15, then 1' (document 02, W-212). So this judge does
 -- not answer the lowest number that applies.
-use Rattle.std.specs.Prelude.{◌≡◌, ◌&&◌, ◌||◌, ◌∷◌}
+use Rattle.refusals.specs.declared.Refusal.{Refusal}
+use Rattle.std.specs.Prelude.{◌≡◌, ◌&&◌, ◌||◌, ◌∷◌, Result, Ok, Err}
 use Rattle.laws.specs.Prelude.{Bool, false, not, List, [], ℕ, eqb, Float, length, Answer, refused, given, over, all, any}
 use Rattle.refusals.specs.Refusal.{Judgement, pass, refuse, unless, number_of}
 use Rattle.layer_table.specs.Table.{is_table_short}
-use Rattle.revision_statements.specs.declared.Standing.{Standing}
-use Rattle.revision_statements.specs.declared.Standing.TheVariants.{Layers, Refused}
 use Rattle.revision_statements.specs.Sent.{Sent, id_of, is_good, sent_of}
 use Rattle.revision_statements.specs.Standing.{standing_of}
 
@@ -33,11 +32,6 @@ stand_verdict records colors words floats = verdict_on (sent_of records colors) 
 abbrev pub stand_answer : Judgement → List Sent → Answer ℕ
 stand_answer pass ss = given (length (standing_of ss))
 stand_answer (refuse number) ss = refused number
-
--- the cases of the code's answer
-abbrev pub standing_answer : Standing → Answer ℕ
-standing_answer (Layers n) = given n
-standing_answer (Refused r) = refused (number_of r)
 
 -- ---- the table: the eight words and four floats of each standing record, as they were sent; past them what it held
 

@@ -2,15 +2,6 @@
 // laws are in proofs/; the functions are of revisions.
 #![tactic(auto)]
 
-use refusals::Refusal;
-
-// How many layers stand, or why the records are turned down.
-#[derive(Clone, Copy)]
-pub enum Standing {
-    Layers(usize),
-    Refused(Refusal),
-}
-
 // The record that a walk has come to: its layer and revision in one number, and its place among the records. The
 // greatest number is past every record, and then the place plays no part.
 #[derive(Clone, Copy)]

@@ -9,6 +9,7 @@ use layer_table::Words;
 const LAYER_LIMIT: u32 = 2097151;
 
 // The words of a record that are those of a layer table.
+// Beside `layer_table`'s: two words stand between the id and the rest here, so one of both would take two places.
 pub fn words_at(records: &[u32], i: usize) -> Words
     requires { 10 * i + 10 ≤ length records.now }
     ensures { result ≡ sent_words_at records.now i }
@@ -46,10 +47,8 @@ pub fn are_good(records: &[u32], n: usize) -> bool
     ensures { (floats : List Float) → result ≡ all is_good (first_sent records.now floats n) }
 {
     let mut ok = true;
-    let mut i: usize = 0;
-    while i < n {
-        ok = ok & is_good(records, i);
-        i += 1;
+    for i in 0..n {
+        ok &= is_good(records, i);
     }
     ok
 }

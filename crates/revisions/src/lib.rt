@@ -7,20 +7,17 @@ pub mod judging;
 pub mod writing;
 
 ghost use Rattle.std.specs.Prelude.{◌≡◌};
-ghost use Rattle.refusals.specs.Refusal.{judgement_in};
+ghost use Rattle.refusals.specs.Refusal.{judgement_in, given_or_refused};
 ghost use Rattle.revision_statements.specs.Sent.{sent_room, sent_of};
-ghost use Rattle.revision_statements.specs.Verdict.{stand_verdict, standing_answer, Stands};
+ghost use Rattle.revision_statements.specs.Verdict.{stand_verdict, Stands};
 
-use refusals::{Refusal, Verdict};
-use revision_statements::Standing;
+use refusals::Refusal;
 
 // How many records the lent memory holds. What is left over plays no part.
 fn sent_room(records: &[u32], record_colors: &[f32]) -> usize
     ensures { result ≡ sent_room records.now record_colors.now }
 {
-    let words = records.len() / 10;
-    let floats = record_colors.len() / 4;
-    if words < floats { words } else { floats }
+    (records.len() / 10).min(record_colors.len() / 4)
 }
 
 // Refusals 4, 15 and 1, the first of them that applies.
@@ -29,22 +26,22 @@ pub fn judge_records(
     record_colors: &[f32],
     layers: &[u32],
     colors: &[f32],
-) -> Verdict
+) -> Result<(), Refusal>
     ensures { judgement_in result ≡ stand_verdict records.now record_colors.now
         layers.now colors.now }
 {
     let n = sent_room(records, record_colors);
     if !judging::are_good(records, n) {
-        return Verdict::Refuse(Refusal::Table);
+        return Err(Refusal::Table);
     }
     let counted = revision_walk::count(records, n);
     if counted.own < n {
-        return Verdict::Refuse(Refusal::Revisions);
+        return Err(Refusal::Revisions);
     }
     if layer_table::is_short(layers, colors, counted.standing) {
-        return Verdict::Refuse(Refusal::Room);
+        return Err(Refusal::Room);
     }
-    Verdict::Pass
+    Ok(())
 }
 
 // Writes the layer table of the records that stand, ids ascending, and answers how many they are. A refusal leaves the
@@ -54,21 +51,19 @@ pub fn stand(
     record_colors: &[f32],
     layers: &mut [u32],
     colors: &mut [f32],
-) -> Standing
+) -> Result<usize, Refusal>
     ensures { Stands
         (stand_verdict records.now record_colors.now layers.old
         colors.old)
         (sent_of records.now record_colors.now)
-        layers.old colors.old (standing_answer result) layers.new colors.new }
+        layers.old colors.old (given_or_refused result) layers.new colors.new }
 {
-    match judge_records(records, record_colors, layers, colors) {
-        Verdict::Refuse(refusal) => Standing::Refused(refusal),
-        Verdict::Pass => Standing::Layers(writing::write_standing(
-            records,
-            record_colors,
-            sent_room(records, record_colors),
-            layers,
-            colors,
-        )),
-    }
+    judge_records(records, record_colors, layers, colors)?;
+    Ok(writing::write_standing(
+        records,
+        record_colors,
+        sent_room(records, record_colors),
+        layers,
+        colors,
+    ))
 }

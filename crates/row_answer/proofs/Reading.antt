@@ -1,8 +1,8 @@
 -- What a text is answered by, from what reading it leaves: the fronts of the arrays are the job's, arrays of these lengths hold every job, and a
 -- malformed text is refused by 10.
 -- Assumes nothing.
-use Rattle.std.specs.Prelude.{◌≡◌, ◌&&◌, ◌*◌, ◌/◌, ◌≤◌}
-use Rattle.laws.proofs.Prelude.{refl, ap, sym, subst, ◌∙◌, List, Option, some, none, ℕ, arith, leb-true, leb, Float, length}
+use Rattle.std.specs.Prelude.{◌≡◌, ◌&&◌, ◌*◌, ◌/◌, ◌≤◌, Result, Ok, Err}
+use Rattle.laws.proofs.Prelude.{refl, ap, sym, subst, ◌∙◌, List, Option, Some, None, ℕ, arith, leb-true, leb, Float, length}
 use Rattle.laws.proofs.Prelude.{take, drop, take_at, Answer, refused, given, plus, over, left, right}
 use Rattle.job_text_statements.specs.Job.{Job, render, WellFormed}
 use Rattle.job_text_statements.specs.Parse.{parse}
@@ -12,9 +12,10 @@ use Rattle.job_lines.specs.declared.layer.LayerLine.{LayerLine}
 use Rattle.job_text_statements.proofs.Laws.{complete, sound}
 use Rattle.job_statements.specs.Table.{layer_words, layer_colors, table_words, table_colors}
 use Rattle.job_statements.specs.Row.{row_words}
-use Rattle.job_statements.specs.Read.{JobOutcome, accepted, no_room, malformed, Numbers, has_room, job_outcome, reading_answer, answer_to, Says, Left, JobRead}
-use Rattle.job_statements.specs.declared.Reading.{Reading}
-use Rattle.job_statements.specs.declared.Reading.TheVariants.{Accepted, NoRoom, Malformed}
+use Rattle.job_statements.specs.Read.{JobOutcome, accepted, no_room, malformed, has_room, job_outcome, reading_answer, answer_to, Says, Left, JobRead}
+use Rattle.job_statements.specs.declared.JobError.{JobError}
+use Rattle.job_statements.specs.declared.JobError.TheVariants.{NoRoom, Malformed}
+use Rattle.job_statements.specs.declared.Numbers.{Numbers}
 use Rattle.job_statements.proofs.Records.{length_parts}
 use Rattle.job_statements.proofs.Room.{always_room}
 use Rattle.job_statements.proofs.Rows.{length_row}
@@ -48,8 +49,8 @@ same_driving eh er ew ef en = λ i. driving_text (plus (eh i).from) (head_drivin
 
 -- the cases of an answer by numbers
 abbrev case_of : Answer (Option Numbers) → ℕ
-case_of (given (some x)) = 0
-case_of (given none) = 1
+case_of (given (Some x)) = 0
+case_of (given None) = 1
 case_of (refused n) = 2
 
 pub record Accepts (text : List ℕ) (h : Head) (n m : ℕ) (layers : List ℕ) (colors : List Float) (row : List ℕ) : Type 0 where
@@ -58,21 +59,21 @@ pub record Accepts (text : List ℕ) (h : Head) (n m : ℕ) (layers : List ℕ) 
   pub row_fits : m ≤ 2048
   pub answer : answer_text text ≡ fronts_text h n m layers colors row
 
-module _ {text layers : List ℕ} {colors : List Float} {row : List ℕ} {r : Reading} {layers' : List ℕ} {colors' : List Float} {row' : List ℕ} (g : JobRead text layers colors row r layers' colors' row') (l : length layers ≡ 512) (c : length colors ≡ 256) (w : length row ≡ 2048) where
-  same_case : {x : Reading} {o : JobOutcome} → r ≡ x → Left o layers colors row r layers' colors' row' → case_of (reading_answer x) ≡ case_of (answer_to o)
+module _ {text layers : List ℕ} {colors : List Float} {row : List ℕ} {r : Result Numbers JobError} {layers' : List ℕ} {colors' : List Float} {row' : List ℕ} (g : JobRead text layers colors row r layers' colors' row') (l : length layers ≡ 512) (c : length colors ≡ 256) (w : length row ≡ 2048) where
+  same_case : {x : Result Numbers JobError} {o : JobOutcome} → r ≡ x → Left o layers colors row r layers' colors' row' → case_of (reading_answer x) ≡ case_of (answer_to o)
   same_case e f = ap case_of (sym (ap reading_answer e) ∙ f.answer)
 
-  pub accepts : {h : Head} {n m : ℕ} → r ≡ Accepted h n m → Accepts text h n m layers' colors' row'
+  pub accepts : {x : Numbers} → r ≡ Ok x → Accepts text x.head x.layers x.segments layers' colors' row'
   unfolding has_room answer_text job_driving
-  accepts {h} {n} {m} e = by (job_outcome text layers colors row) g.says g.left
+  accepts {x} e = by (job_outcome text layers colors row) g.says g.left
     where
-      by : (o : JobOutcome) → Says text layers colors row o → Left o layers colors row r layers' colors' row' → Accepts text h n m layers' colors' row'
+      by : (o : JobOutcome) → Says text layers colors row o → Left o layers colors row r layers' colors' row' → Accepts text x.head x.layers x.segments layers' colors' row'
       by (accepted j) s f =
-          let given_same : given (some (record { head = h; layers = n; segments = m })) ≡ answer_to (accepted j) = sym (ap reading_answer e) ∙ f.answer in
-          let same : ◌≡◌ {A = Numbers} (record { head = h; layers = n; segments = m }) (record { head = j.head; layers = length j.layers; segments = segment_count j.segments }) = cc in
-          let head = ap (λ (x : Numbers). x.head) same in
-          let many : n ≡ length j.layers = ap (λ (x : Numbers). x.layers) same in
-          let segments : m ≡ segment_count j.segments = ap (λ (x : Numbers). x.segments) same in
+          let given_same : given (Some x) ≡ answer_to (accepted j) = sym (ap reading_answer e) ∙ f.answer in
+          let same : ◌≡◌ {A = Numbers} x (record { head = j.head; layers = length j.layers; segments = segment_count j.segments }) = cc in
+          let head = ap (λ (y : Numbers). y.head) same in
+          let many : x.layers ≡ length j.layers = ap (λ (y : Numbers). y.layers) same in
+          let segments : x.segments ≡ segment_count j.segments = ap (λ (y : Numbers). y.segments) same in
           let a = leb (length j.layers) (length layers / 8) in
           let b = leb (length j.layers) (length colors / 4) in
           let room = left (a && b) (leb (segment_count j.segments) (length row)) s.1 in
@@ -95,25 +96,25 @@ module _ {text layers : List ℕ} {colors : List Float} {row : List ℕ} {r : Re
       by (no_room j) s f = absurd (omega (arith, same_case e f))
       by malformed s f = absurd (omega (arith, same_case e f))
 
-  pub has_room_lem : r ≡ NoRoom → ⊥
+  pub has_room_lem : r ≡ Err NoRoom → ⊥
   has_room_lem e = by (job_outcome text layers colors row) g.says g.left
     where
       by : (o : JobOutcome) → Says text layers colors row o → Left o layers colors row r layers' colors' row' → ⊥
       by (accepted j) s f = omega (arith, same_case e f)
       by (no_room j) s f =
           let room = always_room j layers colors row s.0.form (omega arith) (omega arith) (omega arith) in
-          let none = s.1 in
+          let full = s.1 in
           let z : ◌≡◌ {A = ℕ} 0 1 = cc in
           omega arith
       by malformed s f = omega (arith, same_case e f)
 
-  pub refuses : r ≡ Malformed → answer_text text ≡ refusal_text 10
+  pub refuses : r ≡ Err Malformed → answer_text text ≡ refusal_text 10
   unfolding answer_text
   refuses e = by (job_outcome text layers colors row) g.says g.left
     where
       not_parsed : ((j : Job) → WellFormed j → text ≡ render j → ⊥) → (o : Option Job) → parse text ≡ o → answer_text text ≡ refusal_text 10
-      not_parsed s none p = ap answer_by p
-      not_parsed s (some j) p = absurd (s j (sound text j p).form (sound text j p).printed)
+      not_parsed s None p = ap answer_by p
+      not_parsed s (Some j) p = absurd (s j (sound text j p).form (sound text j p).printed)
 
       by : (o : JobOutcome) → Says text layers colors row o → Left o layers colors row r layers' colors' row' → answer_text text ≡ refusal_text 10
       by (accepted j) s f = absurd (omega (arith, same_case e f))

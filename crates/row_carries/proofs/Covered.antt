@@ -1,5 +1,5 @@
 -- A layer that is passed over as covered lies under one that hides it, by the whole row. Assumes nothing.
-use Rattle.std.specs.Prelude.{◌≡◌, ◌∷◌, ◌<◌}
+use Rattle.std.specs.Prelude.{◌≡◌, ◌∷◌, ◌<◌, Option}
 use Rattle.laws.proofs.Prelude.{refl, sym, ap, ap₂, ◌∙◌, true, false, false≢true, List, [], map, ℕ, arith, length, get_or, length-map}
 use Rattle.laws.proofs.Prelude.{Answer, refused, given}
 use Rattle.layer_table.specs.Lookup.{lookup}
@@ -20,8 +20,7 @@ use Rattle.pass_statements.specs.declared.item.Item.{Item}
 use Rattle.pass_statements.proofs.Words.{covered}
 use Rattle.cached_tile.specs.Kept.{previous_count}
 use Rattle.cached_tile.specs.declared.kept.Kept as kept
-use Rattle.layer_workbench.specs.Work.{entry_of, clear_unchanged, count_from, outcome_by_entries, outcome_in}
-use Rattle.layer_workbench.specs.declared.PreviousClear.{PreviousClear}
+use Rattle.layer_workbench.specs.Work.{entry_of, clear_unchanged, outcome_by_entries, outcome_in}
 use Rattle.row_carries.specs.Carries.{InOrder, layers_at}
 use Rattle.row_carries.specs.Covering.{items_at, listed_id_at, CoveredUnder}
 use Rattle.row_carries.proofs.Carried.{layers_ascend}
@@ -72,9 +71,9 @@ module _ {ty : ℕ} {row : List ℕ} (r : InOrder ty row) (table : List Layer) (
         ones = full_ones r table from n p at over.full;
       }
 
-  pub covered_under : (n : ℕ) (k : kept.Kept) (clear : Color) (previous : PreviousClear) (i : ℕ) → i < (outcome_in table k clear previous (layers_at table row from n)).skipped → CoveredUnder table row from n (outcome_in table k clear previous (layers_at table row from n)) i
+  pub covered_under : (n : ℕ) (k : kept.Kept) (clear : Color) (previous : Option Color) (i : ℕ) → i < (outcome_in table k clear previous (layers_at table row from n)).skipped → CoveredUnder table row from n (outcome_in table k clear previous (layers_at table row from n)) i
   unfolding outcome_by_entries
   covered_under n k clear previous i h =
       let items = items_at table row from n in
       let o = outcome_in table k clear previous (layers_at table row from n) in
-      hidden n i o.skipped o h refl (covered items (items_ascend n) clear (clear_unchanged previous clear) (count_from (previous_count k)) i h)
+      hidden n i o.skipped o h refl (covered items (items_ascend n) clear (clear_unchanged previous clear) (previous_count k) i h)

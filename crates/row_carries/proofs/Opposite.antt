@@ -1,6 +1,6 @@
 -- The carries of the opposite row, worked from its opening on: those of the row, negated exactly, by either rule; and what follows of its tiles'
 -- layers and of what the passes make of them. Assumes nothing.
-use Rattle.std.specs.Prelude.{◌≡◌, ◌∷◌, ◌+◌}
+use Rattle.std.specs.Prelude.{◌≡◌, ◌∷◌, ◌+◌, Option}
 use Rattle.laws.proofs.Prelude.{refl, ap, ap₂, ◌∙◌, true, not, List, [], map, ℕ, zero, suc, pos, filter, left, right, filter_map}
 use Rattle.pixel_segment.specs.Field.{cpu}
 use Rattle.pixel_segment.specs.Opposite.{opposite_of}
@@ -23,8 +23,7 @@ use Rattle.pass_statements.specs.Decide.{outcome_of}
 use Rattle.pass_statements.specs.Opposite.{opposite_entry}
 use Rattle.pass_statements.specs.declared.item.Item.{Item}
 use Rattle.pass_statements.proofs.Opposite.{items_opposite}
-use Rattle.layer_workbench.specs.Work.{entry_of, clear_unchanged, count_from, outcome_by_entries, outcome_in}
-use Rattle.layer_workbench.specs.declared.PreviousClear.{PreviousClear}
+use Rattle.layer_workbench.specs.Work.{entry_of, clear_unchanged, outcome_by_entries, outcome_in}
 use Rattle.cached_tile.specs.Kept.{previous_count}
 use Rattle.row_carries.specs.Carries.{queue_after, layers_at}
 use Rattle.row_carries.specs.Covering.{items_at}
@@ -50,10 +49,10 @@ entries_opposite table [] = refl
 entries_opposite table (l ∷ ls) =
     λ i. opposite_entry (record { id = l.id; cover = l.cover; segments = any_opposite l.own i; changed = is_changed table l.id }) ∷ entries_opposite table ls i
 
-pub outcome_opposite : (table : List Layer) (k : kept.Kept) (clear : Color) (previous : PreviousClear) (ls : List Listed) → outcome_in table k clear previous (map opposite_listed ls) ≡ outcome_in table k clear previous ls
+pub outcome_opposite : (table : List Layer) (k : kept.Kept) (clear : Color) (previous : Option Color) (ls : List Listed) → outcome_in table k clear previous (map opposite_listed ls) ≡ outcome_in table k clear previous ls
 unfolding outcome_by_entries
 outcome_opposite table k clear previous ls =
-    ap (λ (x : List Item). outcome_of clear (clear_unchanged previous clear) (count_from (previous_count k)) x)
+    ap (λ (x : List Item). outcome_of clear (clear_unchanged previous clear) (previous_count k) x)
     (ap (items_of table) (entries_opposite table ls) ∙ items_opposite table (map (entry_of table) ls))
 
 -- ---- along the row
@@ -82,6 +81,6 @@ module _ (table : List Layer) (row : List ℕ) (mild : are_mild cpu row ≡ true
   pub items_at_opposite : (n : ℕ) → items_at table (map (opposite_of cpu) row) from n ≡ items_at table row from n
   items_at_opposite n = ap (items_of table) (entries_at_opposite n) ∙ items_opposite table (map (entry_of table) (layers_at table row from n))
 
-  pub outcome_at_opposite : (k : kept.Kept) (clear : Color) (previous : PreviousClear) (n : ℕ)
+  pub outcome_at_opposite : (k : kept.Kept) (clear : Color) (previous : Option Color) (n : ℕ)
       → outcome_in table k clear previous (layers_at table (map (opposite_of cpu) row) from n) ≡ outcome_in table k clear previous (layers_at table row from n)
   outcome_at_opposite k clear previous n = ap (outcome_in table k clear previous) (layers_at_opposite n) ∙ outcome_opposite table k clear previous (layers_at table row from n)

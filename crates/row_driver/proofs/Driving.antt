@@ -1,7 +1,7 @@
 -- The lines of a driven row, as the loop over its tiles goes: with the lines that are left, the lent array is as all lines leave it. Assumes
 -- nothing.
-use Rattle.std.specs.Prelude.{◌≡◌, ◌∷◌, ◌++◌, ◌+◌, ◌-◌, ◌*◌, ◌≤◌, ◌<◌}
-use Rattle.laws.proofs.Prelude.{refl, ap, ap₂, sym, ◌∙◌, List, [], flatten, some, ℕ, zero, suc}
+use Rattle.std.specs.Prelude.{◌≡◌, ◌∷◌, ◌++◌, ◌+◌, ◌-◌, ◌*◌, ◌≤◌, ◌<◌, Ok, Err}
+use Rattle.laws.proofs.Prelude.{refl, ap, ap₂, sym, ◌∙◌, List, [], flatten, Some, ℕ, zero, suc}
 use Rattle.laws.proofs.Prelude.{zero-add, add-one, arith, length, drop, sets, sets-eq, length-sets, over}
 use Rattle.refusals.specs.Refusal.{Judgement, pass, refuse, number_of}
 use Rattle.refusals.specs.declared.Refusal.{Refusal}
@@ -10,7 +10,6 @@ use Rattle.row_statements.specs.Due.{OpenRow, table_on, layers_on}
 use Rattle.row_lines.specs.Lines.{RowLines, lines_by, lines_from, line_on, line_words, lines_words}
 use Rattle.row_lines.specs.Driven.{driving_of, refusal_of, Drives}
 use Rattle.row_lines.specs.declared.Line.{Line}
-use Rattle.row_lines.specs.declared.Driven.TheVariants.{Done, Refused}
 
 -- ---- how many there are
 
@@ -39,11 +38,6 @@ pub record Driving (o : OpenRow) (k : ℕ) (old : List ℕ) (i : ℕ) (new : Lis
   pub rest : sets new (i * 5) (lines_words (lines_from o (k - i) i).lines) ≡ sets old 0 (lines_words (lines_from o k 0).lines)
 
 module _ {o : OpenRow} {k : ℕ} {old : List ℕ} where
-  pub start : k * 5 ≤ length old → Driving o k old 0 old
-  start h =
-      let same : k - 0 ≡ k = omega arith in
-      record { within = omega arith; room = h; long = refl; count = rw same (zero-add _); end_is = rw same; rest = rw same }
-
   module _ {i : ℕ} {new : List ℕ} (v : Driving o k old i new) where
     -- where no line is left, the array holds all of them over what it held
     finished : (lines_from o (k - i) i).lines ≡ [] → (i ≡ length (lines_from o k 0).lines) × (new ≡ over (lines_words (lines_from o k 0).lines) old)
@@ -59,7 +53,7 @@ module _ {o : OpenRow} {k : ℕ} {old : List ℕ} where
         )
 
     -- after the last tile
-    pub done : k ≤ i → Drives (driving_of (lines_from o k 0)) old (Done k) new
+    pub done : k ≤ i → Drives (driving_of (lines_from o k 0)) old (Ok k) new
     unfolding lines_from
     done p =
         let none : k - i ≡ 0 = omega arith in
@@ -98,13 +92,13 @@ module _ {o : OpenRow} {k : ℕ} {old : List ℕ} where
           }
 
       -- at a tile that is refused
-      pub refused : {r : Refusal} → refusal_of (list_verdict (table_on o) (layers_on o i)) ≡ some (number_of r) → Drives (driving_of (lines_from o k 0)) old (Refused r i) new
+      pub refused : {r : Refusal} → refusal_of (list_verdict (table_on o) (layers_on o i)) ≡ Some (number_of r) → Drives (driving_of (lines_from o k 0)) old (Err (r, i)) new
       refused {r} h = by (list_verdict (table_on o) (layers_on o i)) refl h
         where
-          by : (x : Judgement) → list_verdict (table_on o) (layers_on o i) ≡ x → refusal_of x ≡ some (number_of r) → Drives (driving_of (lines_from o k 0)) old (Refused r i) new
+          by : (x : Judgement) → list_verdict (table_on o) (layers_on o i) ≡ x → refusal_of x ≡ Some (number_of r) → Drives (driving_of (lines_from o k 0)) old (Err (r, i)) new
           by pass e h = absurd (let z : ◌≡◌ {A = ℕ} 0 1 = cc in omega arith)
           by (refuse x) e h =
               let is : lines_from o (k - i) i ≡ record { lines = []; end = refuse x } = by_verdict ∙ ap (λ (y : Judgement). lines_by y (line_on o i) (lines_from o (k - (i + 1)) (i + 1))) e in
               let f = finished (ap (λ (y : RowLines). y.lines) is) in
-              let ends : some (number_of r) ≡ refusal_of (lines_from o k 0).end = sym h ∙ ap refusal_of (sym (ap (λ (y : RowLines). y.end) is) ∙ v.end_is) in
+              let ends : Some (number_of r) ≡ refusal_of (lines_from o k 0).end = sym h ∙ ap refusal_of (sym (ap (λ (y : RowLines). y.end) is) ∙ v.end_is) in
               record { answer = λ j. record { written = f.0 j; refusal = ends j }; long = v.long; lines_are = f.1 }

@@ -1,6 +1,6 @@
 -- The line of a tile, by what its work is called with, is the one that the whole row gives. Assumes nothing.
 use Rattle.std.specs.Prelude.{◌≡◌, ◌∷◌, ◌+◌}
-use Rattle.laws.proofs.Prelude.{refl, ap, sym, ◌∙◌, Bool, true, false, cond, List, [], none, ℕ, suc, arith, ones, pos, length}
+use Rattle.laws.proofs.Prelude.{refl, ap, sym, ◌∙◌, Bool, true, false, cond, List, [], None, ℕ, suc, arith, ones, pos, length}
 use Rattle.segment_rows.specs.Search.{tile_part}
 use Rattle.styling.specs.declared.Layer.{Layer}
 use Rattle.queue_statements.specs.Queue.{Carry, ids_in}
@@ -11,7 +11,6 @@ use Rattle.pass_statements.specs.Decision.{code_of}
 use Rattle.layer_workbench.specs.Work.{outcome_in}
 use Rattle.row_carries.proofs.Carried.{queue_next}
 use Rattle.painter.specs.Clip.{clip_after}
-use Rattle.layer_workbench.specs.declared.PreviousClear.TheVariants.{Absent}
 use Rattle.row_statements.specs.Due.{OpenRow, table_on, queue_on, layers_on, func_on, mark_on}
 use Rattle.row_statements.specs.InnerHolding.{IsOpen}
 use Rattle.row_statements.proofs.PaintSteps.{row_mark}
@@ -55,7 +54,7 @@ module _ {o : OpenRow} (is_open : IsOpen o) (n : ℕ) (known : are_known (table_
       assoc : (x y z : ℕ) → x + y + z ≡ x + (y + z)
       assoc x y z = omega arith
 
-  octets_due : (paints : Bool) (ids : List ℕ) → (tallied paints (table_on o) (queue_on o n) part at_start ids).octets ≡ cond paints (octets_on o n none ids) 0
+  octets_due : (paints : Bool) (ids : List ℕ) → (tallied paints (table_on o) (queue_on o n) part at_start ids).octets ≡ cond paints (octets_on o n None ids) 0
   octets_due true ids = let e = tallied_octets ids at_start in omega (arith, e)
   octets_due false ids = tallied_none (table_on o) (queue_on o n) part ids at_start
 
@@ -63,7 +62,7 @@ module _ {o : OpenRow} (is_open : IsOpen o) (n : ℕ) (known : are_known (table_
 
   abbrev line_for : List Listed → List Carry → List ℕ → Line
   line_for ls q p =
-      let out = outcome_in (table_on o) no_tile clear_color Absent ls in
+      let out = outcome_in (table_on o) no_tile clear_color None ls in
       let t = tallied (is_paint out.decision) (table_on o) q p at_start (shown_in out.skipped out.unmasked (ids_in (incoming_of ls))) in
       record { decision = code_of out.decision; listed = length ls; shown = t.shown; octets = t.octets; carried = length (handed_on (table_on o) ls) }
 

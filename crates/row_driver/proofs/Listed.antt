@@ -1,7 +1,7 @@
 -- An accepted work's list: each of its layers can be painted, since the table has it and number 9 does not apply; and the tally of the lent list is
 -- the tile's. Assumes nothing.
-use Rattle.std.specs.Prelude.{◌≡◌, ◌≤◌, ◌<◌}
-use Rattle.laws.proofs.Prelude.{refl, ap, sym, ◌∙◌, true, List, map, ⊎_elim, none, ℕ, arith, length, take, drop, length-map}
+use Rattle.std.specs.Prelude.{◌≡◌, ◌≤◌, ◌<◌, Ok, Err}
+use Rattle.laws.proofs.Prelude.{refl, ap, sym, ◌∙◌, true, List, map, ⊎_elim, None, ℕ, arith, length, take, drop, length-map}
 use Rattle.laws.proofs.Prelude.{refused, given, is_given, over, all_at, length_over}
 use lib.Seq.{take-append_seam}
 use Rattle.pixel_segment.specs.Field.{cpu, layer_id_of}
@@ -18,9 +18,8 @@ use Rattle.layer_carrying.proofs.Handing.{handed_few}
 use Rattle.pass_statements.specs.Item.{item_of}
 use Rattle.pass_statements.proofs.Words.{outcome_long, skipped_within}
 use Rattle.pass_statements.specs.Decision.{code_of, decision_in}
-use Rattle.layer_workbench.specs.Work.{entry_of, outcome_by_entries, clear_unchanged, count_from}
+use Rattle.layer_workbench.specs.Work.{entry_of, outcome_by_entries, clear_unchanged}
 use Rattle.cached_tile.specs.Kept.{previous_count}
-use Rattle.painter.specs.Clip.{clip_in}
 use Rattle.refusals.specs.Refusal.{Judgement, pass, refuse, number_of}
 use Rattle.refusals.specs.declared.Refusal.{Refusal}
 use Rattle.row_statements.specs.Lent.{carries_in, layers_of}
@@ -30,7 +29,6 @@ use Rattle.row_statements.specs.InnerWork.{worked_by}
 use Rattle.row_statements.specs.declared.RowState.{RowState}
 use Rattle.row_statements.specs.declared.TileDone.{TileDone}
 use Rattle.row_statements.specs.declared.TileWorked.{TileWorked}
-use Rattle.row_statements.specs.declared.WorkAnswer.TheVariants as worked
 use Rattle.row_statements.proofs.Works.{Listable, list_passed}
 use Rattle.row_statements.proofs.Paintings.{layer_passed}
 use Rattle.row_lines.specs.Shown.{shown_in}
@@ -86,10 +84,10 @@ module _ (a : WorkCall) (lent : WorkLent) (ready : Workable a lent) where
     pub passes : layers_verdict a ≡ pass
     pub done : tile_answer_in d ≡ tile_answer (says_for a)
     pub left : s.left ≡ length (says_for a).handed
-    pub no_clip : clip_in s.clip ≡ none
+    pub no_clip : s.clip ≡ None
     pub list_unmasked : back.list.unmasked ≡ over (says_for a).outcome.unmasked lent.list.unmasked
 
-  pub accepted : {w : TileWorked} {back : WorkLent} {d : TileDone} → w.answer ≡ worked.Done d → GivesWork (worked_by a lent) w back → Accepted d w.state back
+  pub accepted : {w : TileWorked} {back : WorkLent} {d : TileDone} → w.answer ≡ Ok d → GivesWork (worked_by a lent) w back → Accepted d w.state back
   unfolding work_out
   accepted {w} {back} {d} e g = by (layers_verdict a) refl (sym (ap work_answer e) ∙ g.answer) g.state g.lent_is
     where
@@ -105,7 +103,7 @@ module _ (a : WorkCall) (lent : WorkLent) (ready : Workable a lent) where
           }
 
   -- a refused one is not accepted
-  pub line_refused : {w : TileWorked} {back : WorkLent} {k : Refusal} → w.answer ≡ worked.Refused k → GivesWork (worked_by a lent) w back → layers_verdict a ≡ pass → ⊥
+  pub line_refused : {w : TileWorked} {back : WorkLent} {k : Refusal} → w.answer ≡ Err k → GivesWork (worked_by a lent) w back → layers_verdict a ≡ pass → ⊥
   unfolding work_out
   line_refused {w} {back} {k} e g v =
       let same : refused (number_of k) ≡ (work_out pass (says_for a) a.state a.kept lent).answer = sym (ap work_answer e) ∙ g.answer ∙ ap (λ (x : Judgement). (work_out x (says_for a) a.state a.kept lent).answer) v in
@@ -115,7 +113,7 @@ module _ (a : WorkCall) (lent : WorkLent) (ready : Workable a lent) where
   pub flags_long : length (says_for a).outcome.unmasked ≡ length (listed_for a)
   unfolding outcome_by_entries
   flags_long =
-      outcome_long a.clear (clear_unchanged a.previous a.clear) (count_from (previous_count a.kept)) (map (item_of (layers_of a.table)) (map (entry_of (layers_of a.table)) (listed_for a)))
+      outcome_long a.clear (clear_unchanged a.previous a.clear) (previous_count a.kept) (map (item_of (layers_of a.table)) (map (entry_of (layers_of a.table)) (listed_for a)))
       ∙ length-map (map (entry_of (layers_of a.table)) (listed_for a)) (item_of (layers_of a.table)) ∙ length-map (listed_for a) (entry_of (layers_of a.table))
 
   -- the first layer that is not skipped is listed, or none is skipped
@@ -125,7 +123,7 @@ module _ (a : WorkCall) (lent : WorkLent) (ready : Workable a lent) where
       let items = map (item_of (layers_of a.table)) (map (entry_of (layers_of a.table)) (listed_for a)) in
       let long : length items ≡ length (listed_for a) = length-map (map (entry_of (layers_of a.table)) (listed_for a)) (item_of (layers_of a.table)) ∙ length-map (listed_for a) (entry_of (layers_of a.table)) in
       ⊎_elim (λ e. omega (arith, e)) (λ e. omega (arith, e, long))
-      (skipped_within a.clear (clear_unchanged a.previous a.clear) (count_from (previous_count a.kept)) items)
+      (skipped_within a.clear (clear_unchanged a.previous a.clear) (previous_count a.kept) items)
 
   module _ {d : TileDone} {s : RowState} {back : WorkLent} (t : Accepted d s back) where
     listable : Listable (layers_of a.table) (listed_for a)

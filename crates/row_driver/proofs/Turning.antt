@@ -1,14 +1,13 @@
 -- A tile of a driven row: what the driver holds lets the work pass without judging the row and the table again, and the theorem of demand 3 says
 -- what the work gives and what the driver then holds. Assumes nothing.
-use Rattle.std.specs.Prelude.{◌≡◌, ◌+◌, ◌^◌, ◌<◌}
-use Rattle.laws.proofs.Prelude.{refl, ap, sym, subst, ◌∙◌, Bool, true, false, not, List, some, none, ℕ, suc, arith, le-ltb}
+use Rattle.std.specs.Prelude.{◌≡◌, ◌+◌, ◌^◌, ◌<◌, Ok, Err}
+use Rattle.laws.proofs.Prelude.{refl, ap, sym, subst, ◌∙◌, Bool, true, false, not, List, Some, None, ℕ, suc, arith, le-ltb}
 use Rattle.laws.proofs.Prelude.{lt-leb, eq-eqb, pos, length, refused, given}
 use Rattle.refusals.specs.Refusal.{Judgement, pass, refuse, number_of, and_then}
 use Rattle.refusals.specs.declared.Refusal.{Refusal}
 use Rattle.segment_rows.specs.Search.{tile_part}
 use Rattle.queue_statements.specs.Queue.{is_queue}
 use Rattle.cached_tile.specs.Kept.{no_tile}
-use Rattle.layer_workbench.specs.declared.PreviousClear.TheVariants.{Absent}
 use Rattle.row_statements.specs.Lent.{Columns, ListColumns, carries_in, is_list_short}
 use Rattle.row_statements.specs.State.{State, state_in}
 use Rattle.row_statements.specs.TileWork.{WorkLent, work_lent, listed_for, says_for, list_verdict, args_verdict, layers_verdict, work_out, work_of, work_answer, tile_answer_in, GivesWork}
@@ -18,7 +17,6 @@ use Rattle.row_statements.specs.Claim.{RightWork}
 use Rattle.row_statements.specs.InnerHolding.{IsOpen, Holds}
 use Rattle.row_statements.specs.declared.RowState.{RowState}
 use Rattle.row_statements.specs.declared.TileDone.{TileDone}
-use Rattle.row_statements.specs.declared.WorkAnswer.TheVariants as worked
 use Rattle.row_statements.proofs.Works.{args_passed, judged, list_passed}
 use Rattle.row_statements.proofs.WorkSteps.{args_due, layers_due, right_work}
 use Rattle.row_lines.specs.Lines.{clear_color, line_on}
@@ -32,7 +30,7 @@ pub list_kept : (list list' : ListColumns) → length list'.ids ≡ length list.
 list_kept list list' ei ec es eh h = rw (ei, ec, es, eh) h
 
 -- the tile is the state's next, and its number is narrow
-module _ {o : OpenRow} {n : ℕ} {h : Held} (is_open : IsOpen o) (holds : Holds o (record { tiles = n; clip = none }) h) where
+module _ {o : OpenRow} {n : ℕ} {h : Held} (is_open : IsOpen o) (holds : Holds o (record { tiles = n; clip = None }) h) where
   pub tile_is : h.state.next ≡ o.from + n
   tile_is = ap (λ (x : State). x.next) holds.state
 
@@ -44,12 +42,12 @@ other_side : (in-a : Bool) (a b : Columns) → side (not (not in-a)) a b ≡ sid
 other_side true a b = refl
 other_side false a b = refl
 
-module _ {o : OpenRow} {n : ℕ} (in-a : Bool) (s : RowState) (a b : Columns) (is_open : IsOpen o) (holds : Holds o (record { tiles = n; clip = none }) (held_by in-a s a b)) (inside : o.from + n < o.to) (list : ListColumns) (list_long : is_list_short list ≡ false) where
+module _ {o : OpenRow} {n : ℕ} (in-a : Bool) (s : RowState) (a b : Columns) (is_open : IsOpen o) (holds : Holds o (record { tiles = n; clip = None }) (held_by in-a s a b)) (inside : o.from + n < o.to) (list : ListColumns) (list_long : is_list_short list ≡ false) where
   choice : WorkChoice
-  choice = record { tile = pos s.next; kept = no_tile; clear = clear_color; previous = Absent; queue = side in-a a b; lent = work_lent (side (not in-a) a b) list }
+  choice = record { tile = pos s.next; kept = no_tile; clear = clear_color; previous = None; queue = side in-a a b; lent = work_lent (side (not in-a) a b) list }
 
   past : Past
-  past = record { tiles = n; clip = none }
+  past = record { tiles = n; clip = None }
 
   same : SameCarries (held_by in-a s a b).state.left (held_by in-a s a b).queue (side in-a a b)
   same = record { reads = refl; room = refl; order = refl }
@@ -107,7 +105,7 @@ module _ {o : OpenRow} {n : ℕ} (in-a : Bool) (s : RowState) (a b : Columns) (i
     answer_is = told.gives.answer ∙ ap (λ (v : Judgement). (work_out v (says_on o n choice) (state_on o past) choice.kept choice.lent).answer) verdict_is
 
     -- an accepted tile: its line is the whole row's, and the driver holds the next tile's carries on the other side
-    pub accepted : {d : TileDone} → r.worked.answer ≡ worked.Done d → list_verdict (table_on o) (layers_on o n) ≡ pass
+    pub accepted : {d : TileDone} → r.worked.answer ≡ Ok d → list_verdict (table_on o) (layers_on o n) ≡ pass
     unfolding work_out
     accepted {d} e = by (list_verdict (table_on o) (layers_on o n)) (sym (ap work_answer e) ∙ answer_is)
       where
@@ -115,7 +113,7 @@ module _ {o : OpenRow} {n : ℕ} (in-a : Bool) (s : RowState) (a b : Columns) (i
         by (refuse k) h = absurd (let z : ◌≡◌ {A = ℕ} 0 1 = cc in omega arith)
         by pass h = refl
 
-    pub line_is : {d : TileDone} → r.worked.answer ≡ worked.Done d → r.line ≡ line_on o n
+    pub line_is : {d : TileDone} → r.worked.answer ≡ Ok d → r.line ≡ line_on o n
     unfolding choice line_at
     line_is e =
         let v = accepted e in
@@ -123,18 +121,18 @@ module _ {o : OpenRow} {n : ℕ} (in-a : Bool) (s : RowState) (a b : Columns) (i
         ∙ line.line_is is_open n (list_passed (table_on o) (layers_on o n) v).known layers_are
         (ap (λ (x : State). carries_in x.left (side in-a a b)) holds.state ∙ holds.queue.reads) (ap (λ (m : ℕ). tile_part (pos m) o.row) (tile_is is_open holds))
 
-    pub holds_next : {d : TileDone} → r.worked.answer ≡ worked.Done d → Holds o (record { tiles = suc n; clip = none }) (held_by (not in-a) r.worked.state a' b')
+    pub holds_next : {d : TileDone} → r.worked.answer ≡ Ok d → Holds o (record { tiles = suc n; clip = None }) (held_by (not in-a) r.worked.state a' b')
     unfolding choice back
     holds_next e =
         let h = rw (e, verdict_is, accepted e) at (right_work is_open holds choice same given_work).1 in
         let taken : side in-a a b ≡ side (not (not in-a)) a' b' = sym (other_side in-a a' b' ∙ t.kept) in
-        subst (λ (k : Columns). Holds o (record { tiles = suc n; clip = none }) (record { state = state_in r.worked.state; queue = side (not in-a) a' b'; taken = k })) taken h
+        subst (λ (k : Columns). Holds o (record { tiles = suc n; clip = None }) (record { state = state_in r.worked.state; queue = side (not in-a) a' b'; taken = k })) taken h
 
     -- a refused one: the number is the list's
-    pub refused_is : {k : Refusal} → r.worked.answer ≡ worked.Refused k → refusal_of (list_verdict (table_on o) (layers_on o n)) ≡ some (number_of k)
+    pub refused_is : {k : Refusal} → r.worked.answer ≡ Err k → refusal_of (list_verdict (table_on o) (layers_on o n)) ≡ Some (number_of k)
     unfolding work_out
     refused_is {k} e = by (list_verdict (table_on o) (layers_on o n)) (sym (ap work_answer e) ∙ answer_is)
       where
-        by : (v : Judgement) → refused (number_of k) ≡ (work_out v (says_on o n choice) (state_on o past) choice.kept choice.lent).answer → refusal_of v ≡ some (number_of k)
-        by (refuse x) h = ap some (sym cc)
+        by : (v : Judgement) → refused (number_of k) ≡ (work_out v (says_on o n choice) (state_on o past) choice.kept choice.lent).answer → refusal_of v ≡ Some (number_of k)
+        by (refuse x) h = ap Some (sym cc)
         by pass h = absurd (let z : ◌≡◌ {A = ℕ} 0 1 = cc in omega arith)

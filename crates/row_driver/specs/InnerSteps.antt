@@ -1,13 +1,12 @@
 -- What the inner functions of a driver ask and give: a tile's line from what a work is called with, and two queues that take turns. proofs/ has
 -- that these are the lines of row_lines/specs/Lines.
-use Rattle.std.specs.Prelude.{◌≡◌, ◌+◌, ◌*◌, ◌≤◌}
+use Rattle.std.specs.Prelude.{◌≡◌, ◌+◌, ◌*◌, ◌≤◌, None}
 use Rattle.laws.specs.Prelude.{Bool, true, false, not, List, ℕ, Float, pos, length}
 use Rattle.segment_rows.specs.Search.{tile_part}
 use Rattle.queue_statements.specs.Queue.{ids_in, is_queue}
 use Rattle.cached_tile.specs.Kept.{no_tile}
 use Rattle.tile_layers.specs.Listing.{incoming_of}
 use Rattle.pass_statements.specs.Decision.{code_of}
-use Rattle.layer_workbench.specs.declared.PreviousClear.TheVariants.{Absent}
 use Rattle.refusals.specs.Refusal.{pass}
 use Rattle.row_statements.specs.Lent.{Columns, ListColumns, lent_table, carries_in, is_queue_short, is_list_short, layers_of}
 use Rattle.row_statements.specs.State.{state_in}
@@ -43,7 +42,7 @@ line_at a =
 
 -- what a driver calls a work with: the tile is the state's next
 abbrev pub args_of : RowState → List ℕ → List ℕ → List Float → ℕ → Columns → WorkCall
-args_of s row words floats count queue = work_call (state_in s) (pos s.next) row (lent_table words floats count) no_tile clear_color Absent queue
+args_of s row words floats count queue = work_call (state_in s) (pos s.next) row (lent_table words floats count) no_tile clear_color None queue
 
 -- what the work of a tile asks
 pub record Workable (a : WorkCall) (lent : WorkLent) : Type 0 where

@@ -5,7 +5,7 @@
 
 pub mod tile;
 
-ghost use Rattle.std.specs.Prelude.{◌≡◌, ◌+◌, ◌≤◌, min, length};
+ghost use Rattle.std.specs.Prelude.{◌≡◌, ◌+◌, ◌≤◌, length};
 ghost use Rattle.std.proofs.lemmas.List.Edits.{sets};
 ghost use Rattle.row_statements.specs.Lent.{columns, list_columns, lent_table};
 ghost use Rattle.row_statements.specs.Opening.{open_call};
@@ -13,41 +13,33 @@ ghost use Rattle.row_lines.specs.Lines.{lines_from, line_words};
 ghost use Rattle.row_lines.specs.Driven.{due_tiles, driving_of, row_driving, Drives};
 ghost use Rattle.row_driver.specs.InnerSteps as steps;
 
-use row_lines::{Driven, Line};
-use row_statements::{Opened, RowState, WorkAnswer};
+use refusals::Refusal;
+use row_lines::Line;
+use row_statements::RowState;
 use segment_rows::parts;
-
-fn least(a: u32, b: u32) -> u32
-    ensures { result ≡ min a b }
-{
-    if a < b { a } else { b }
-}
 
 // How many tiles of from..to the row has.
 fn due_tiles(from: i32, to: i32, tiles: i32) -> usize
     ensures { result ≡ due_tiles from to tiles }
 {
-    let end = least(
-        least(row_state::natural(to), row_state::natural(tiles)),
-        4095,
-    );
-    let first = row_state::natural(from);
-    if end < first {
-        0
-    } else {
-        (end - first) as usize
-    }
+    let end = row_state::natural(to)
+        .min(row_state::natural(tiles))
+        .min(4095);
+    end.saturating_sub(row_state::natural(from)) as usize
 }
 
 fn write_line(lines: &mut [u32], at: usize, line: Line)
     requires { at + 5 ≤ length lines.old }
     ensures { lines.new ≡ sets lines.old at (line_words line) }
 {
-    lines[at] = line.decision;
-    lines[at + 1] = line.listed;
-    lines[at + 2] = line.shown;
-    lines[at + 3] = line.octets;
-    lines[at + 4] = line.carried;
+    let words = [
+        line.decision,
+        line.listed,
+        line.shown,
+        line.octets,
+        line.carried,
+    ];
+    lines[at..at + 5].copy_from_slice(&words);
 }
 
 // Drives the first n tiles of an open row. Each tile's last segment is searched in what is left of the row, from where
@@ -69,7 +61,7 @@ fn drive_tiles(
     list_unmasked: &mut [bool],
     sums: &mut [i8; 4096],
     lines: &mut [u32],
-) -> Driven
+) -> Result<usize, (Refusal, usize)>
     requires { steps.Drivable (steps.row_by state row.now layers.now colors.now count) state n
         (columns a_ids.old a_covers.old) (columns b_ids.old b_covers.old)
         (list_columns list_ids.old list_covers.old list_flags.old
@@ -83,8 +75,7 @@ fn drive_tiles(
     let mut at = state;
     let mut in_a = true;
     let mut start = parts::left_of_tile(row, state.next as i16).len();
-    let mut i: usize = 0;
-    while i < n {
+    for i in 0..n {
         let part = parts::up_to_tile(&row[start..], at.next as i16);
         start += part.len();
         let step = tile::turn(
@@ -108,18 +99,17 @@ fn drive_tiles(
         let line = step.line;
         let answer = worked.answer;
         match answer {
-            WorkAnswer::Refused(refusal) => {
-                return Driven::Refused(refusal, i);
+            Err(refusal) => {
+                return Err((refusal, i));
             }
-            WorkAnswer::Done(_) => {
+            Ok(_) => {
                 write_line(lines, i * 5, line);
                 at = worked.state;
                 in_a = !in_a;
-                i += 1;
             }
         }
     }
-    Driven::Done(n)
+    Ok(n)
 }
 
 // Drives an open row with a second queue, a list and room for carries of its own.
@@ -133,7 +123,7 @@ fn drive_open(
     ids: &mut [u32],
     covers: &mut [i8],
     lines: &mut [u32],
-) -> Driven
+) -> Result<usize, (Refusal, usize)>
     requires { steps.Opened (steps.row_by state row.now layers.now colors.now count) state n
         (columns ids.old covers.old) lines.old }
     ensures { Drives
@@ -180,7 +170,7 @@ pub fn drive_row(
     colors: &[f32],
     count: usize,
     lines: &mut [u32; 20475],
-) -> Driven
+) -> Result<usize, (Refusal, usize)>
     ensures { Drives
         (row_driving
         (open_call tile_y from to row.now (lent_table layers.now colors.now count))
@@ -201,8 +191,8 @@ pub fn drive_row(
         &mut ids,
         &mut covers,
     ) {
-        Opened::Refused(refusal) => Driven::Refused(refusal, 0),
-        Opened::Row(state) => drive_open(
+        Err(refusal) => Err((refusal, 0)),
+        Ok(state) => drive_open(
             state,
             n,
             row,

@@ -7,11 +7,10 @@ ghost use Rattle.row_lines.specs.Lines.{clear_color, is_paint};
 ghost use Rattle.row_driver.specs.InnerSteps.{side, PartWorkable, WorksPartLine, Turns};
 
 use cached_tile::kept::Kept;
-use layer_workbench::PreviousClear;
 use pass_statements::decide::Decision;
 use passes::decide;
 use row_lines::Line;
-use row_statements::{RowState, TileDone, TileWorked, WorkAnswer};
+use row_statements::{RowState, TileDone, TileWorked};
 use shown_layers::Tally;
 use styling::Color;
 
@@ -113,7 +112,7 @@ fn work_line(
         count,
         Kept::absent(),
         clear_color(),
-        PreviousClear::Absent,
+        None,
         ids,
         covers,
         next_ids,
@@ -126,11 +125,11 @@ fn work_line(
     );
     let answer = worked.answer;
     match answer {
-        WorkAnswer::Refused(_) => TileLine {
+        Err(_) => TileLine {
             worked: worked,
             line: blank(),
         },
-        WorkAnswer::Done(done) => {
+        Ok(done) => {
             let after = worked.state;
             let decision = done.decision;
             let skipped = done.skipped;

@@ -2,8 +2,8 @@
 use Rattle.std.specs.Prelude.{◌≡◌, ◌∷◌, ◌++◌, ◌+◌, ◌-◌, ◌≤◌, ◌<◌}
 use Rattle.laws.proofs.Prelude.{refl, ap, ap₂, sym, subst, ◌∙◌, Bool, true, false, cond, List, [], Option, ℕ, suc}
 use Rattle.laws.proofs.Prelude.{arith, le-ltb, lt-leb, eq-eqb, ones, Float, pos, length, take, length-map, refused, given}
-use mathlib.Core.Option as option
-use Rattle.refusals.specs.Refusal.{Judgement, pass, refuse}
+use Rattle.std.specs.declared.option.Option.TheVariants as option
+use Rattle.refusals.specs.Refusal.{Judgement, pass, refuse, given_or_refused}
 use Rattle.queue_statements.specs.Queue.{ids_in}
 use Rattle.queue_statements.proofs.Columns.{take_ids}
 use Rattle.tile_layers.specs.Listing.{incoming_of}
@@ -12,7 +12,7 @@ use Rattle.pass_statements.specs.Decide.{Outcome}
 use Rattle.painter.specs.Clip.{clip_after}
 use Rattle.row_statements.specs.State.{State, state_in}
 use Rattle.row_statements.specs.TileWork.{WorkLent, TileAnswer, list_verdict, tile_answer, work_out, work_answer}
-use Rattle.row_statements.specs.Painting.{paint_out, paint_answer}
+use Rattle.row_statements.specs.Painting.{paint_out}
 use Rattle.row_statements.specs.Due.{OpenRow, Past, WorkChoice, table_on, queue_on, layers_on, outcome_on, is_not_due, work_due_verdict, says_on, state_on, past_work, PaintChoice, paint_due_verdict, paint_on, func_on, mark_on, past_paint}
 use Rattle.row_statements.specs.Run.{Event}
 use Rattle.row_statements.specs.Claim.{RightWork, RightPaint, AllRight}
@@ -40,7 +40,7 @@ module _ (o : OpenRow) where
     pub past_is : past_paint (paint_due_verdict o (suc n) c) o c.layer (tiles_past (suc n) clip) ≡ tiles_past (suc n) (clip_after (func_on o id) id clip)
 
   paint_told : {n id : ℕ} {clip : Option ℕ} {c : PaintChoice} {r : Painted} {back : List Float} {mark : ℕ}
-      → PaintsShown o n id c → paint_answer r.answer ≡ given mark → RightPaint o (tiles_past (suc n) clip) c r back → PaintTold n id clip c mark
+      → PaintsShown o n id c → given_or_refused r.answer ≡ given mark → RightPaint o (tiles_past (suc n) clip) c r back → PaintTold n id clip c mark
   unfolding paint_out
   paint_told {n} {id} {clip} {c} {r} {back} {mark} s a d = by (paint_due_verdict o (suc n) c) refl (sym a ∙ d.answer)
     where
@@ -78,19 +78,19 @@ module _ (o : OpenRow) where
     pub carried_is : s.left ≡ length (queue_on o (suc n))
 
   -- where the tile is not painted, no octet is used
-  octets_by : (paints : Bool) (n : ℕ) (ids : List ℕ) → octets_on o n option.none (cond paints ids []) ≡ cond paints (octets_on o n option.none ids) 0
+  octets_by : (paints : Bool) (n : ℕ) (ids : List ℕ) → octets_on o n option.None (cond paints ids []) ≡ cond paints (octets_on o n option.None ids) 0
   unfolding octets_on
   octets_by true n ids = refl
   octets_by false n ids = refl
 
   -- its line is the tile's
-  line_told : {n : ℕ} {t : TileAnswer} {s : State} {back : WorkLent} {octets : ℕ} → WorkTold n t s back → octets ≡ octets_on o n option.none (painted_by t back) → line_by t back s octets ≡ line_on o n
+  line_told : {n : ℕ} {t : TileAnswer} {s : State} {back : WorkLent} {octets : ℕ} → WorkTold n t s back → octets ≡ octets_on o n option.None (painted_by t back) → line_by t back s octets ≡ line_on o n
   unfolding line_on
   line_told {n} {t} {s} {back} {octets} w e =
       let d = decided_on o n in
-      let used : octets ≡ cond (is_paint d.decision) (octets_on o n option.none (shown_on o n)) 0 =
+      let used : octets ≡ cond (is_paint d.decision) (octets_on o n option.None (shown_on o n)) 0 =
       e
-      ∙ ap₂ (λ (x : TileAnswer) (ids : List ℕ). octets_on o n option.none (cond (is_paint x.decision) ids [])) w.told_is w.shown_is
+      ∙ ap₂ (λ (x : TileAnswer) (ids : List ℕ). octets_on o n option.None (cond (is_paint x.decision) ids [])) w.told_is w.shown_is
       ∙ octets_by (is_paint d.decision) n (shown_on o n) in
       λ i. record { decision = code_of (w.told_is i).decision; listed = (w.told_is i).listed; shown = length (w.shown_is i); octets = used i; carried = w.carried_is i }
 
@@ -142,7 +142,7 @@ module _ (o : OpenRow) where
               carried_is = ap (λ (s : State). s.left) state;
             }
 
-    pub past_told : {t : TileAnswer} → WorkTold n t (state_in r.state) back → past_work (work_due_verdict o n c) (tiles_past n clip) ≡ tiles_past (suc n) option.none
+    pub past_told : {t : TileAnswer} → WorkTold n t (state_in r.state) back → past_work (work_due_verdict o n c) (tiles_past n clip) ≡ tiles_past (suc n) option.None
     past_told t = ap (λ (v : Judgement). past_work v (tiles_past n clip)) (verdict_is ∙ t.passes)
 
   -- ---- all tiles
@@ -154,7 +154,7 @@ module _ (o : OpenRow) where
   lines_are {k} {n} clip inside (LineCalls.next {k = m} {r = r} {back = back} {t = t} {ps = ps} {es = es} {octets = octets} {rest = rest} w a paintings calls) all =
       let here : o.from + n < o.to = omega (arith, inside) in
       let told = work_told here w all.0 a in
-      let painted = painted_told option.none paintings (subst (λ (p : Past). AllRight o p (ps ++ es)) (past_told here w all.0 told) all.1) in
+      let painted = painted_told option.None paintings (subst (λ (p : Past). AllRight o p (ps ++ es)) (past_told here w all.0 told) all.1) in
       let line = line_told told painted.octets_are in
       let below = lines_are painted.left (omega (arith, inside)) calls painted.rest in
       ap₂ (λ (l : Line) (ls : RowLines). record { lines = l ∷ ls.lines; end = ls.end }) line below

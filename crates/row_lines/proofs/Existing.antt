@@ -1,13 +1,12 @@
 -- After every accepted opening there is a run of the public calls that a driven row stands for. Assumes nothing.
-use Rattle.std.specs.Prelude.{◌≡◌, ◌∷◌, ◌++◌, ◌+◌, ◌-◌, ◌≤◌, ◌<◌}
+use Rattle.std.specs.Prelude.{◌≡◌, ◌∷◌, ◌++◌, ◌+◌, ◌-◌, ◌≤◌, ◌<◌, None, Ok}
 use Rattle.laws.proofs.Prelude.{refl, ap, sym, subst, ◌∙◌, Bool, true, false, cond, List, [], Option, ℕ, zero, suc}
 use Rattle.laws.proofs.Prelude.{arith, eq-eqb, ne_eqb, le-ltb, ones, binary32, of_bits, pos, replicate, refused, given, plus}
-use mathlib.Core.Option as option
+use Rattle.std.specs.declared.option.Option.TheVariants as option
 use Rattle.refusals.specs.Refusal.{Judgement, pass, refuse}
 use Rattle.segment_rows.specs.Rows.{Words}
 use Rattle.segment_rows.specs.Search.{tile_part}
 use Rattle.cached_tile.specs.Kept.{no_tile}
-use Rattle.layer_workbench.specs.declared.PreviousClear.TheVariants.{Absent}
 use Rattle.row_carries.proofs.Carried.{queue_ascends}
 use Rattle.row_carries.proofs.Parts.{tile_ordered}
 use Rattle.painter.specs.Clip.{clip_after}
@@ -21,7 +20,6 @@ use Rattle.row_statements.specs.Run.{open_row, held_first, Held, work_on, held_a
 use Rattle.row_statements.specs.Claim.{RightWork}
 use Rattle.row_statements.specs.InnerHolding.{IsOpen, Holds}
 use Rattle.row_statements.specs.declared.RowState.{RowState}
-use Rattle.row_statements.specs.declared.Opened.TheVariants as opened
 use Rattle.row_statements.specs.declared.TileWorked.{TileWorked}
 use Rattle.row_statements.proofs.Works.{list_passed}
 use Rattle.row_statements.proofs.WorkSteps.{right_work}
@@ -96,7 +94,7 @@ module _ (o : OpenRow) (is_open : IsOpen o) where
   empty_list = record { ids = replicate 256 0; covers = replicate 4096 (pos 0); flags = replicate 512 false; unmasked = replicate 256 false }
 
   abbrev pub choice_work : ℕ → Held → WorkChoice
-  choice_work n h = record { tile = pos (o.from + n); kept = no_tile; clear = clear_color; previous = Absent; queue = h.queue; lent = record { queue = empty_queue; list = empty_list } }
+  choice_work n h = record { tile = pos (o.from + n); kept = no_tile; clear = clear_color; previous = None; queue = h.queue; lent = record { queue = empty_queue; list = empty_list } }
 
   works : (n : ℕ) (h : Held) → WorksTile o n (choice_work n h)
   works n h = record { tile = refl; kept = refl; clear = refl; previous = refl; queue_room = refl; list_room = refl }
@@ -172,7 +170,7 @@ module _ (o : OpenRow) (is_open : IsOpen o) where
           let told = work_told o here (works n h) right a in
           let h' = held_after r.answer (state_in r.state) h c.queue back in
           let holds' = subst (λ (q : Past). Holds o q h') (past_told o here (works n h) right told) (right_work is_open holds c as_held g).1 in
-          let painted = paintings n option.none h' (painted_by t back) holds' (painted_pass n t (state_in r.state) back told) in
+          let painted = paintings n option.None h' (painted_by t back) holds' (painted_pass n t (state_in r.state) back told) in
           let rest = go painted.clip painted.after (omega (arith, inside)) painted.holds in
           record {
             events = Event.work c r back ∷ (painted.events ++ rest.events);
@@ -185,11 +183,11 @@ module _ (o : OpenRow) (is_open : IsOpen o) where
 -- ---- after an accepted opening
 
 pub tell_lines : TellLines
-tell_lines c lent back s k es h ls w g inside r calls = lines_are (open_row c) option.none (omega (arith, inside)) calls (run c lent back s es h w g r).1
+tell_lines c lent back s k es h ls w g inside r calls = lines_are (open_row c) option.None (omega (arith, inside)) calls (run c lent back s es h w g r).1
 
-pub lines_told : (c : OpenCall) (lent back : Columns) (s : RowState) (k : ℕ) → Words c.row → OpensRow (open_of c lent) (opened.Row s) back → plus c.from + k ≤ plus c.to → LinesTold c s back k
+pub lines_told : (c : OpenCall) (lent back : Columns) (s : RowState) (k : ℕ) → Words c.row → OpensRow (open_of c lent) (Ok s) back → plus c.from + k ≤ plus c.to → LinesTold c s back k
 lines_told c lent back s k w g inside =
     let a = accepted c lent back s g in
-    let d = driven (open_row c) (is_open c lent back s w a) k 0 option.none (held_first s back) (omega (arith, inside)) (held_first_lem c lent back s w a) in
+    let d = driven (open_row c) (is_open c lent back s w a) k 0 option.None (held_first s back) (omega (arith, inside)) (held_first_lem c lent back s w a) in
     let told = tell_lines c lent back s k d.events d.after d.lines w g inside d.runs d.calls in
     record { events = d.events; after = d.after; runs = d.runs; calls = subst (LineCalls (open_row c) k 0 d.events) told d.calls }

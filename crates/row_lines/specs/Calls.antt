@@ -1,23 +1,20 @@
 -- The public calls that the lines of a driven row stand for: the work on each tile, and where it is painted the painting of each shown layer,
 -- ascending. What is shown and counted is read from what the calls answered and left in lent memory, as a caller reads it. proofs/Calls has that
 -- these are the lines of specs/Lines wherever the calls are a run, and that there is such a run.
-use Rattle.std.specs.Prelude.{◌≡◌, ◌∷◌, ◌++◌, ◌+◌, ◌≤◌}
+use Rattle.std.specs.Prelude.{◌≡◌, ◌∷◌, ◌++◌, ◌+◌, ◌≤◌, None, Ok}
 use Rattle.laws.specs.Prelude.{false, cond, List, [], ℕ, zero, suc, ones, ltb, Float, pos, length, take, refused, given}
 use Rattle.laws.specs.Prelude.{plus}
-use Rattle.refusals.specs.Refusal.{pass, refuse}
+use Rattle.refusals.specs.Refusal.{pass, refuse, given_or_refused}
 use Rattle.segment_rows.specs.Rows.{Words}
 use Rattle.cached_tile.specs.Kept.{no_tile}
 use Rattle.pass_statements.specs.Decision.{code_of}
-use Rattle.layer_workbench.specs.declared.PreviousClear.TheVariants.{Absent}
 use Rattle.row_statements.specs.Lent.{Columns, is_queue_short, is_list_short}
 use Rattle.row_statements.specs.State.{State, state_in}
 use Rattle.row_statements.specs.Opening.{OpenCall, open_of, OpensRow}
 use Rattle.row_statements.specs.TileWork.{WorkLent, TileAnswer, work_answer}
-use Rattle.row_statements.specs.Painting.{paint_answer}
 use Rattle.row_statements.specs.Due.{OpenRow, WorkChoice, PaintChoice}
 use Rattle.row_statements.specs.Run.{open_row, Held, held_first, Event, Run}
 use Rattle.row_statements.specs.declared.RowState.{RowState}
-use Rattle.row_statements.specs.declared.Opened.TheVariants as opened
 use Rattle.row_statements.specs.declared.TileWorked.{TileWorked}
 use Rattle.row_statements.specs.declared.Painted.{Painted}
 use Rattle.row_lines.specs.Shown.{shown_in}
@@ -31,7 +28,7 @@ pub record WorksTile (o : OpenRow) (n : ℕ) (c : WorkChoice) : Type 0 where
   pub tile : c.tile ≡ pos (o.from + n)
   pub kept : c.kept ≡ no_tile
   pub clear : c.clear ≡ clear_color
-  pub previous : c.previous ≡ Absent
+  pub previous : c.previous ≡ None
   pub queue_room : is_queue_short c.lent.queue ≡ false
   pub list_room : is_list_short c.lent.list ≡ false
 
@@ -62,7 +59,7 @@ pub data Paintings (o : OpenRow) (n : ℕ) : List ℕ → List Event → ℕ →
   none : Paintings o n [] [] 0
   next : {id : ℕ} {ids : List ℕ} {c : PaintChoice} {r : Painted} {back : List Float} {es : List Event} {mark octets : ℕ} →
       PaintsShown o n id c →
-      paint_answer r.answer ≡ given mark →
+      given_or_refused r.answer ≡ given mark →
       Paintings o n ids es octets →
       Paintings o n (id ∷ ids) (Event.paint c r back ∷ es) (ones mark + octets)
 
@@ -87,7 +84,7 @@ abbrev pub TellLines : Type 0
 TellLines =
     (c : OpenCall) (lent back : Columns) (s : RowState) (k : ℕ) (es : List Event) (h : Held) (ls : RowLines) →
     Words c.row →
-    OpensRow (open_of c lent) (opened.Row s) back →
+    OpensRow (open_of c lent) (Ok s) back →
     plus c.from + k ≤ plus c.to →
     Run (open_row c) (held_first s back) es h →
     LineCalls (open_row c) k 0 es ls →

@@ -1,9 +1,9 @@
 -- The lines of a driven row: for each tile its decision, layers listed, layers shown, used octets and carries, worked from the whole row by the
 -- definitions that the theorem of demand 3 compares with (`row_statements`, specs/Due). No queue and no state that a call gave back is looked at.
 -- Stands for 'Fields: tile, decision, layers listed, layers neither masked nor skipped, used octets summed over the draws, carries handed on'.
-use Rattle.std.specs.Prelude.{◌∷◌, ◌+◌}
+use Rattle.std.specs.Prelude.{◌∷◌, ◌+◌, None}
 use Rattle.laws.specs.Prelude.{Bool, true, false, cond, Option, List, [], map, flatten, ℕ, zero, suc, ones, binary32, of_bits, length}
-use Rattle.std.proofs.Math.Option as option
+use Rattle.std.specs.declared.option.Option.TheVariants as option
 use Rattle.styling.specs.declared.Color.{Color}
 use Rattle.queue_statements.specs.Queue.{ids_in}
 use Rattle.cached_tile.specs.Kept.{no_tile}
@@ -11,7 +11,6 @@ use Rattle.tile_layers.specs.Listing.{incoming_of}
 use Rattle.refusals.specs.Refusal.{Judgement, pass, refuse}
 use Rattle.pass_statements.specs.Decision.{TileDecision, none, solid, paint, code_of}
 use Rattle.pass_statements.specs.Decide.{Outcome}
-use Rattle.layer_workbench.specs.declared.PreviousClear.TheVariants.{Absent}
 use Rattle.painter.specs.Clip.{clip_after}
 use Rattle.row_statements.specs.TileWork.{list_verdict}
 use Rattle.row_statements.specs.Due.{OpenRow, table_on, queue_on, layers_on, outcome_on, func_on, mark_on}
@@ -32,7 +31,7 @@ is_paint paint = true
 
 -- decision, masks and skips of the tile from + n
 abbrev pub decided_on : OpenRow → ℕ → Outcome
-decided_on o n = outcome_on o n no_tile clear_color Absent
+decided_on o n = outcome_on o n no_tile clear_color None
 
 -- the ids of its shown layers
 abbrev pub shown_on : OpenRow → ℕ → List ℕ
@@ -50,7 +49,7 @@ line_on o n =
       decision = code_of (decided_on o n).decision;
       listed = length (layers_on o n);
       shown = length (shown_on o n);
-      octets = cond (is_paint (decided_on o n).decision) (octets_on o n option.none (shown_on o n)) 0;
+      octets = cond (is_paint (decided_on o n).decision) (octets_on o n option.None (shown_on o n)) 0;
       carried = length (queue_on o (suc n));
     }
 

@@ -1,8 +1,6 @@
 // What is said of a driven row: a line for each tile. No code stands here.
 #![tactic(auto)]
 
-use refusals::Refusal;
-
 // The line of a tile: the decision (0 none, 1 solid, 2 paint), layers listed, layers shown, used octets, carries handed
 // on.
 #[derive(Clone, Copy)]
@@ -12,11 +10,4 @@ pub struct Line {
     pub shown: u32,
     pub octets: u32,
     pub carried: u32,
-}
-
-// How many lines are written: one for each tile that is due, or those before a refusal.
-#[derive(Clone, Copy)]
-pub enum Driven {
-    Done(usize),
-    Refused(Refusal, usize),
 }

@@ -2,16 +2,13 @@
 #![tactic(auto)]
 
 ghost use Rattle.std.specs.Prelude.{◌≡◌};
-ghost use Rattle.refusals.specs.Refusal.{judgement_in};
-ghost use Rattle.queue_statements.specs.Opening.{opening_answer};
+ghost use Rattle.refusals.specs.Refusal.{judgement_in, given_or_refused};
 ghost use Rattle.row_statements.specs.Lent.{columns, lent_table};
 ghost use Rattle.row_statements.specs.Opening.{open_call, has_bad_ends, open_verdict, state_by, open_of};
 ghost use Rattle.row_statements.specs.Opening.{opened_answer, OpensRow};
 
-use painter::Clip;
-use queue_statements::Opening;
-use refusals::{Refusal, Verdict};
-use row_statements::{Opened, RowState};
+use refusals::Refusal;
+use row_statements::RowState;
 use segment_rows::{order, parts};
 
 // Refusal 2: the row's number or its tiles out of range.
@@ -32,43 +29,45 @@ pub fn judge_opening(
     count: usize,
     ids: &[u32],
     covers: &[i8],
-) -> Verdict
+) -> Result<(), Refusal>
     ensures { judgement_in result ≡ open_verdict
         (open_call tile_y from to row.now (lent_table layers.now colors.now count))
         (columns ids.now covers.now) }
 {
     if queue::is_short(ids, covers) | layer_table::is_short(layers, colors, count) {
-        return Verdict::Refuse(Refusal::Room);
+        return Err(Refusal::Room);
     }
     if has_bad_ends(tile_y, from, to) {
-        return Verdict::Refuse(Refusal::Tile);
+        return Err(Refusal::Tile);
     }
     if !order::is_row(row, row_state::natural(tile_y) as u64 + 1) {
-        return Verdict::Refuse(Refusal::Row);
+        return Err(Refusal::Row);
     }
     if !layer_table::is_table(layers, colors, count) {
-        return Verdict::Refuse(Refusal::Table);
+        return Err(Refusal::Table);
     }
-    Verdict::Pass
+    Ok(())
 }
 
 // The answer of an opening whose queue is made.
-fn opened(tile_y: i32, from: i32, to: i32, made: Opening) -> Opened
-    ensures { opened_answer result ≡ state_by tile_y from to (opening_answer made) }
+fn opened(
+    tile_y: i32,
+    from: i32,
+    to: i32,
+    made: Result<usize, Refusal>,
+) -> Result<RowState, Refusal>
+    ensures { opened_answer result ≡ state_by tile_y from to (given_or_refused made) }
 {
-    match made {
-        Opening::Count(n) => Opened::Row(RowState {
-            tile_y: row_state::natural(tile_y),
-            from: row_state::natural(from),
-            to: row_state::natural(to),
-            next: row_state::natural(from),
-            left: n,
-            taken: 0,
-            clip: Clip::Absent,
-        }),
-        Opening::TooManyLayers => Opened::Refused(Refusal::Layers),
-        Opening::CoversTooLarge => Opened::Refused(Refusal::Covers),
-    }
+    let left = made?;
+    Ok(RowState {
+        tile_y: row_state::natural(tile_y),
+        from: row_state::natural(from),
+        to: row_state::natural(to),
+        next: row_state::natural(from),
+        left,
+        taken: 0,
+        clip: None,
+    })
 }
 
 // Opens a tile row: its carries from the segments left of `from` in the lent queue, and the state before its
@@ -83,7 +82,7 @@ pub fn open_tile_row(
     count: usize,
     ids: &mut [u32],
     covers: &mut [i8],
-) -> Opened
+) -> Result<RowState, Refusal>
     ensures { OpensRow
         (open_of
         (open_call tile_y from to row.now (lent_table layers.now colors.now count))
@@ -91,16 +90,12 @@ pub fn open_tile_row(
         result
         (columns ids.new covers.new) }
 {
-    match judge_opening(tile_y, from, to, row, layers, colors, count, ids, covers) {
-        Verdict::Refuse(refusal) => Opened::Refused(refusal),
-        Verdict::Pass => {
-            let left = parts::left_of_tile(row, from as i16);
-            opened(
-                tile_y,
-                from,
-                to,
-                queue_opening::open_queue(left, ids, covers),
-            )
-        }
-    }
+    judge_opening(tile_y, from, to, row, layers, colors, count, ids, covers)?;
+    let left = parts::left_of_tile(row, from as i16);
+    opened(
+        tile_y,
+        from,
+        to,
+        queue_opening::open_queue(left, ids, covers),
+    )
 }

@@ -13,11 +13,10 @@ ghost use Rattle.row_statements.specs.Painting.{layer_in, paint_of, PaintsLayer}
 ghost use Rattle.row_statements.specs.InnerPaint.{is_short_with, painted_layer};
 
 use cover::carry;
-use layer_table::Found;
 use painter::painting;
 use painter::painting::Painting;
-use refusals::{Refusal, Verdict};
-use row_statements::{PaintAnswer, Painted, RowState};
+use refusals::Refusal;
+use row_statements::{Painted, RowState};
 use segment_rows::{order, parts};
 use styling::{FillRule, Func, Layer, Props};
 
@@ -49,7 +48,7 @@ fn judge_call(
     ids: &[u32],
     covers: &[i8],
     plane: &[f32],
-) -> Verdict
+) -> Result<(), Refusal>
     ensures { judgement_in result ≡ call_verdict
         (paint_call (state_in state) tile 0 row.now
         (lent_table layers.now colors.now count)
@@ -57,21 +56,21 @@ fn judge_call(
         plane.now }
 {
     if is_paint_short(layers, colors, count, ids, covers, plane) {
-        return Verdict::Refuse(Refusal::Room);
+        return Err(Refusal::Room);
     }
     if row_state::is_wrong_worked(state, tile) {
-        return Verdict::Refuse(Refusal::Tile);
+        return Err(Refusal::Tile);
     }
     if !order::is_row(row, state.tile_y as u64 + 1) {
-        return Verdict::Refuse(Refusal::Row);
+        return Err(Refusal::Row);
     }
     if !layer_table::is_table(layers, colors, count) {
-        return Verdict::Refuse(Refusal::Table);
+        return Err(Refusal::Table);
     }
     if !queue::is_queue(ids, state.taken) {
-        return Verdict::Refuse(Refusal::Queue);
+        return Err(Refusal::Queue);
     }
-    Verdict::Pass
+    Ok(())
 }
 
 // Refusals 8 and 9 of the painted layer.
@@ -84,19 +83,19 @@ fn judge_layer(
     covers: &[i8],
     n: usize,
     layer: u32,
-) -> Verdict
+) -> Result<(), Refusal>
     requires { Table layers.now colors.now count × Queued n ids.now covers.now }
     ensures { judgement_in result ≡ layer_verdict (table_of layers.now colors.now count)
         (queue_of n ids.now covers.now) part.now layer }
 {
     match layer_table::find(layers, count, layer) {
-        Found::Absent => Verdict::Refuse(Refusal::Missing),
-        Found::At(_) => {
+        None => Err(Refusal::Missing),
+        Some(_) => {
             let own = parts::of_layer(part, layer);
             if carry::is_light(own, queue::incoming(ids, covers, n, layer)) {
-                Verdict::Pass
+                Ok(())
             } else {
-                Verdict::Refuse(Refusal::Covers)
+                Err(Refusal::Covers)
             }
         }
     }
@@ -114,20 +113,16 @@ fn judge_painting(
     ids: &[u32],
     covers: &[i8],
     plane: &[f32],
-) -> Verdict
+) -> Result<(), Refusal>
     ensures { judgement_in result ≡ paint_verdict
         (paint_call (state_in state) tile layer row.now
         (lent_table layers.now colors.now count)
         (columns ids.now covers.now))
         plane.now }
 {
-    match judge_call(state, tile, row, layers, colors, count, ids, covers, plane) {
-        Verdict::Refuse(refusal) => Verdict::Refuse(refusal),
-        Verdict::Pass => {
-            let part = parts::in_tile(row, tile as i16);
-            judge_layer(part, layers, colors, count, ids, covers, state.taken, layer)
-        }
-    }
+    judge_call(state, tile, row, layers, colors, count, ids, covers, plane)?;
+    let part = parts::in_tile(row, tile as i16);
+    judge_layer(part, layers, colors, count, ids, covers, state.taken, layer)
 }
 
 // The record of a layer. Refusal 8 keeps out one that the table lacks.
@@ -136,8 +131,8 @@ pub fn record_of(layers: &[u32], colors: &[f32], count: usize, id: u32) -> Layer
     ensures { result ≡ layer_in (table_of layers.now colors.now count) id }
 {
     match layer_table::find(layers, count, id) {
-        Found::At(p) => layer_table::layer_at(layers, colors, p),
-        Found::Absent => {
+        Some(p) => layer_table::layer_at(layers, colors, p),
+        None => {
             let props = Props {
                 fill_rule: FillRule::NonZero,
                 func: Func::Clip(0),
@@ -167,7 +162,7 @@ fn answered(state: RowState, painting: Painting) -> Painted
     };
     Painted {
         state: after,
-        answer: PaintAnswer::Mark(painting.mark),
+        answer: Ok(painting.mark),
     }
 }
 
@@ -197,11 +192,11 @@ pub fn paint_layer(
     match judge_painting(
         state, tile, layer, row, layers, colors, count, ids, covers, plane,
     ) {
-        Verdict::Refuse(refusal) => Painted {
+        Err(refusal) => Painted {
             state: state,
-            answer: PaintAnswer::Refused(refusal),
+            answer: Err(refusal),
         },
-        Verdict::Pass => {
+        Ok(()) => {
             let part = parts::in_tile(row, tile as i16);
             let found = record_of(layers, colors, count, layer);
             let clip = state.clip;

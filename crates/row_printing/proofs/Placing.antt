@@ -1,24 +1,22 @@
 -- A line of the report, printed where there is room for the longest: its bytes, and the place after it.
 -- Assumes nothing.
-use Rattle.std.specs.Prelude.{◌≡◌, ◌+◌, ◌*◌, ◌≤◌}
-use Rattle.laws.proofs.Prelude.{subst, ◌∙◌, List, some, ℕ, arith, le-leb, length, get_or, length-append, w32, Fits}
+use Rattle.std.specs.Prelude.{◌≡◌, ◌+◌, ◌*◌, ◌≤◌, Option, None, unwrap_or}
+use Rattle.laws.proofs.Prelude.{subst, ◌∙◌, List, Some, ℕ, arith, le-leb, length, get_or, length-append, w32, Fits}
 use Rattle.decimal.specs.Print.{Printing}
 use Rattle.decimal.proofs.Print.{ten}
 use Rattle.report.specs.Text.{op_field, tile_text, refusal_text}
-use Rattle.report.specs.Put.{place_after, Put}
+use Rattle.report.specs.Put.{Put}
 use Rattle.report.specs.declared.Op.{Op}
-use Rattle.report.specs.declared.Op.TheVariants.{None, Solid, Paint}
-use Rattle.report.specs.declared.Printed.{Printed}
-use Rattle.report.specs.declared.Printed.TheVariants.{Next, Full}
+use Rattle.report.specs.declared.Op.TheVariants as decision
 use Rattle.report.specs.declared.TileLine.{TileLine}
-use Rattle.row_printing.specs.Told.{place_or, tile_in}
+use Rattle.row_printing.specs.Told.{tile_in}
 
 -- ---- how long a line is at most
 
 op_long : (o : Op) → length (op_field o) ≤ 6
-op_long None = omega arith
-op_long Solid = omega arith
-op_long Paint = omega arith
+op_long decision.None = omega arith
+op_long decision.Solid = omega arith
+op_long decision.Paint = omega arith
 
 tile_long : (t : TileLine) → Fits w32 t.tile → Fits w32 t.listed → Fits w32 t.shown → Fits w32 t.octets → Fits w32 t.carried → length (tile_text t) ≤ 61
 unfolding tile_text
@@ -32,25 +30,25 @@ refusal_long n h = simp length-append (omega (arith, ten n h))
 
 -- ---- where there is room
 
-module _ {text out out' : List ℕ} {at : ℕ} {p : Printed} (q : Put text out at p out') where
-  pub placed : {r : ℕ} → r ≡ place_or at p → at + length text ≤ length out → Printing text out at r out'
+module _ {text out out' : List ℕ} {at : ℕ} {p : Option ℕ} (q : Put text out at p out') where
+  pub placed : {r : ℕ} → r ≡ unwrap_or p at → at + length text ≤ length out → Printing text out at r out'
   placed {r} e h =
       let room = le-leb (at + length text) (length out) h in
       record { answer = e ∙ by p (rw room at q.answer); printed = rw room at q.printed }
     where
-      by : (x : Printed) → place_after x ≡ some (at + length text) → place_or at x ≡ at + length text
-      by (Next i) z = cc
-      by Full z = absurd (let o : ◌≡◌ {A = ℕ} 0 1 = cc in omega arith)
+      by : (x : Option ℕ) → x ≡ Some (at + length text) → unwrap_or x at ≡ at + length text
+      by (Some i) z = cc
+      by None z = absurd (let o : ◌≡◌ {A = ℕ} 0 1 = cc in omega arith)
 
   -- with room for k bytes
-  pub placed_in : (k : ℕ) {r : ℕ} → r ≡ place_or at p → length text ≤ k → at + k ≤ length out → Printing text out at r out' × (r ≤ at + k)
+  pub placed_in : (k : ℕ) {r : ℕ} → r ≡ unwrap_or p at → length text ≤ k → at + k ≤ length out → Printing text out at r out' × (r ≤ at + k)
   placed_in k e l h =
       let w = placed e (omega arith) in
       (w, omega (arith, w.answer))
 
 -- line i of the told words, as that of a tile
 module _ (told : List ℕ) (i tile : ℕ) where
-  pub tile_placed : {out out' : List ℕ} {at r : ℕ} {line : TileLine} {p : Printed} → Put (tile_text line) out at p out' → line ≡ tile_in told i tile → r ≡ place_or at p
+  pub tile_placed : {out out' : List ℕ} {at r : ℕ} {line : TileLine} {p : Option ℕ} → Put (tile_text line) out at p out' → line ≡ tile_in told i tile → r ≡ unwrap_or p at
       → Fits w32 tile → ((k : ℕ) → Fits w32 (get_or told k 0)) → at + 61 ≤ length out → Printing (tile_text (tile_in told i tile)) out at r out' × (r ≤ at + 61)
   tile_placed {out} {out'} {at} {r} {line} {p} q e f ft fw h =
       let long = tile_long (tile_in told i tile) ft (fw (i * 5 + 1)) (fw (i * 5 + 2)) (fw (i * 5 + 3)) (fw (i * 5 + 4)) in

@@ -5,15 +5,8 @@ use Rattle.laws.specs.Prelude.{List, [], ℕ, zero, suc, length, get_or}
 use Rattle.row_lines.specs.Driven.{LinesWritten}
 use Rattle.row_lines.specs.declared.Line.{Line}
 use Rattle.report.specs.Text.{tile_names}
-use Rattle.report.specs.declared.Printed.{Printed}
-use Rattle.report.specs.declared.Printed.TheVariants.{Next, Full}
 use Rattle.report.specs.declared.TileLine.{TileLine}
 use Rattle.row_answer.specs.Answer.{op_of, tile_line_text, last_text, answer_room}
-
--- the place after a printed line, or another
-abbrev pub place_or : ℕ → Printed → ℕ
-place_or at (Next i) = i
-place_or at Full = at
 
 -- line i
 abbrev pub line_in : List ℕ → ℕ → Line

@@ -7,10 +7,10 @@ ghost use Rattle.report.specs.Text.{tile_names, tile_text, refusal_text};
 ghost use Rattle.report.specs.Put.{LineWritten};
 ghost use Rattle.row_lines.specs.Driven.{lines_written};
 ghost use Rattle.row_answer.specs.Answer.{op_of};
-ghost use Rattle.row_printing.specs.Told.{place_or, tile_in, told_lines, told_text, Lines, Tells};
+ghost use Rattle.row_printing.specs.Told.{tile_in, told_lines, told_text, Lines, Tells};
 
-use report::{Op, Printed, TileLine};
-use row_lines::Driven;
+use refusals::Refusal;
+use report::{Op, TileLine};
 
 fn op_of(code: u32) -> Op
     ensures { result ≡ op_of code }
@@ -40,21 +40,12 @@ fn tile_in(told: &[u32], i: usize, tile: u32) -> TileLine
     }
 }
 
-// The place after a line. The callers have room, so that there is one.
-fn place_or(at: usize, printed: Printed) -> usize
-    ensures { result ≡ place_or at printed }
-{
-    match printed {
-        Printed::Next(i) => i,
-        Printed::Full => at,
-    }
-}
-
+// The callers of these three have room for the line, so that there is a place after it.
 fn print_names(out: &mut [u8], at: usize) -> usize
     requires { at + 36 ≤ length out.old }
     ensures { Printing tile_names out.old at result out.new }
 {
-    place_or(at, report::print_names(out, at))
+    report::print_names(out, at).unwrap_or(at)
 }
 
 // Prints line i, as that of the given tile.
@@ -63,14 +54,14 @@ fn print_tile(told: &[u32], i: usize, tile: u32, out: &mut [u8], at: usize) -> u
     ensures { (Printing (tile_text (tile_in told.now i tile)) out.old at result out.new)
         × (result ≤ at + 61) }
 {
-    place_or(at, report::print_tile(out, at, tile_in(told, i, tile)))
+    report::print_tile(out, at, tile_in(told, i, tile)).unwrap_or(at)
 }
 
 pub fn print_refusal(out: &mut [u8], at: usize, number: u32) -> usize
     requires { at + 19 ≤ length out.old }
     ensures { (Printing (refusal_text number) out.old at result out.new) × (result ≤ at + 19) }
 {
-    place_or(at, report::print_refusal(out, at, number))
+    report::print_refusal(out, at, number).unwrap_or(at)
 }
 
 // Prints the first n lines, from the tile `first` on.
@@ -80,26 +71,27 @@ fn print_lines(told: &[u32], first: u32, n: usize, out: &mut [u8], at: usize) ->
         × (result ≤ at + n * 61) }
 {
     let mut end = at;
-    let mut tile = first;
-    let mut i: usize = 0;
-    while i < n {
-        end = print_tile(told, i, tile, out, end);
-        tile += 1;
-        i += 1;
+    for i in 0..n {
+        end = print_tile(told, i, first + i as u32, out, end);
     }
     end
 }
 
 // Prints what a driver told: the names, its lines, and the refusal that ended it.
-pub fn print_driven(driven: Driven, told: &[u32], first: u32, out: &mut [u8]) -> usize
+pub fn print_driven(
+    driven: Result<usize, (Refusal, usize)>,
+    told: &[u32],
+    first: u32,
+    out: &mut [u8],
+) -> usize
     requires { Tells told.now first (lines_written driven) out.old }
     ensures { LineWritten (told_text told.now first (lines_written driven)) out.old result
         out.new }
 {
     let start = print_names(out, 0);
     match driven {
-        Driven::Done(n) => print_lines(told, first, n, out, start),
-        Driven::Refused(refusal, n) => {
+        Ok(n) => print_lines(told, first, n, out, start),
+        Err((refusal, n)) => {
             let end = print_lines(told, first, n, out, start);
             print_refusal(out, end, refusals::number_of(refusal))
         }

@@ -1,5 +1,5 @@
 -- The run of specs/Example. Assumes nothing.
-use Rattle.std.specs.Prelude.{◌≡◌, ◌∷◌, ◌^◌, ◌<◌}
+use Rattle.std.specs.Prelude.{◌≡◌, ◌∷◌, ◌^◌, ◌<◌, None, Ok}
 use Rattle.laws.proofs.Prelude.{refl, ◌∙◌, true, List, [], ℕ, zero, suc, arith, ltb-true, ltb, eq, odd, of_bits, get_or, given, all}
 use Rattle.laws.proofs.Prelude.{left, right}
 use Rattle.refusals.specs.Refusal.{pass, refuse}
@@ -21,7 +21,6 @@ use Rattle.pass_statements.specs.Covered.{covered_from}
 use Rattle.pass_statements.specs.Decide.{shown_from, outcome_of}
 use Rattle.layer_workbench.specs.Work.{outcome_by_entries}
 use Rattle.row_carries.specs.Carries.{queue_after}
-use Rattle.painter.specs.declared.Clip.TheVariants.{Absent}
 use Rattle.row_statements.specs.Lent.{Columns, queue_over}
 use Rattle.row_statements.specs.Opening.{left_of, open_verdict, open_count, open_of, OpensRow}
 use Rattle.row_statements.specs.TileWork.{args_verdict, list_verdict}
@@ -30,7 +29,6 @@ use Rattle.row_statements.specs.Due.{at_first, queue_on}
 use Rattle.row_statements.specs.Run.{open_row}
 use Rattle.row_statements.specs.Example.{row, call, room, choices, choices_due, Ran}
 use Rattle.row_statements.specs.declared.RowState.{RowState}
-use Rattle.row_statements.specs.declared.Opened.TheVariants as opened
 use Rattle.row_statements.proofs.Run.{accepted, is_open, held_first_lem}
 use Rattle.row_statements.proofs.Runs.{exists}
 
@@ -47,7 +45,7 @@ in_words = record { small = λ i. small i row refl }
 -- ---- the opening
 
 first : RowState
-first = record { tile_y = 0; from = 0; to = 2; next = 0; left = 4; taken = 0; clip = Absent }
+first = record { tile_y = 0; from = 0; to = 2; next = 0; left = 4; taken = 0; clip = None }
 
 held : Columns
 held = queue_over (open_queue (left_of call)) (room 256)
@@ -56,7 +54,7 @@ counted : open_count (open_verdict call (room 256)) (left_of call) ≡ given 4
 unfolding open_verdict is_table_short is_valid is_table strictly_ascends_from ascends_from layer_at is_light_opening is_light add_to add_all cover_of left_part search_of halved tile_of
 counted = refl
 
-opens : OpensRow (open_of call (room 256)) (opened.Row first) held
+opens : OpensRow (open_of call (room 256)) (Ok first) held
 unfolding first held open_of
 opens = rw counted (record { answer = refl; lent_is = refl })
 

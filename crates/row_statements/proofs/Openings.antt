@@ -1,7 +1,8 @@
 -- What a passed opening's verdict tells, and the operation put together from its parts. Assumes nothing.
-use Rattle.std.specs.Prelude.{◌≡◌, ◌||◌, ◌≤◌}
+use Rattle.std.specs.Prelude.{◌≡◌, ◌||◌, ◌≤◌, Result, Err}
 use Rattle.laws.proofs.Prelude.{refl, ap, ◌∙◌, true, false, List, ℕ, suc, arith, not-false, ℤ, pos, lt_z, Answer, refused, given, plus}
 use Rattle.laws.proofs.Prelude.{minus, whole, lt_false}
+use Rattle.row_statements.specs.declared.RowState.{RowState}
 use Rattle.refusals.specs.Refusal.{pass, refuse, number_of}
 use Rattle.refusals.specs.declared.Refusal.{Refusal}
 use Rattle.refusals.proofs.Judging.{passed, or_left, or_right}
@@ -11,8 +12,6 @@ use Rattle.queue_statements.specs.Queue.{ids_in, covers_in}
 use Rattle.queue_statements.specs.Opening.{open_queue, open_answer, written_if, Opens}
 use Rattle.row_statements.specs.Lent.{Columns, is_queue_short, is_lent_short, is_lent_table}
 use Rattle.row_statements.specs.Opening.{OpenCall, left_of, has_bad_ends, open_verdict, state_by, open_out, open_of, opened_answer, OpensRow}
-use Rattle.row_statements.specs.declared.Opened.{Opened}
-use Rattle.row_statements.specs.declared.Opened.TheVariants as opened
 
 -- the row's number and its tiles are in range
 pub record Ends (tileY from to : ℤ) : Type 0 where
@@ -60,12 +59,12 @@ module _ (c : OpenCall) (lent : Columns) where
   -- ---- the operation
 
   -- a verdict that refuses: its number, and the queue as it was
-  pub refused_row : {r : Refusal} → open_verdict c lent ≡ refuse (number_of r) → OpensRow (open_of c lent) (opened.Refused r) lent
+  pub refused_row : {r : Refusal} → open_verdict c lent ≡ refuse (number_of r) → OpensRow (open_of c lent) (Err r) lent
   unfolding open_of
   refused_row {r} e = rw e (record { answer = refl; lent_is = refl })
 
   -- a verdict that passes: what the opening's queue answers
-  pub opened_row : {r : Opened} {made : Answer ℕ} {ids : List ℕ} {covers : List ℤ} → open_verdict c lent ≡ pass → Opens (left_of c) lent.ids lent.covers made ids covers → opened_answer r ≡ state_by c.tile_y c.from c.to made → OpensRow (open_of c lent) r (record { ids = ids; covers = covers })
+  pub opened_row : {r : Result RowState Refusal} {made : Answer ℕ} {ids : List ℕ} {covers : List ℤ} → open_verdict c lent ≡ pass → Opens (left_of c) lent.ids lent.covers made ids covers → opened_answer r ≡ state_by c.tile_y c.from c.to made → OpensRow (open_of c lent) r (record { ids = ids; covers = covers })
   unfolding open_of
   opened_row {r} {made} {ids} {covers} e o told = rw e (by (open_answer (left_of c)) o.answer o.ids_are o.covers_are)
     where

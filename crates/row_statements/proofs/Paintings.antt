@@ -1,5 +1,5 @@
 -- What a painting's verdict tells, and the whole operation from it. Assumes nothing.
-use Rattle.std.specs.Prelude.{◌≡◌, ◌||◌, ◌+◌, ◌≤◌}
+use Rattle.std.specs.Prelude.{◌≡◌, ◌||◌, ◌+◌, ◌≤◌, Err}
 use Rattle.laws.proofs.Prelude.{refl, ap, subst, ◌∙◌, true, false, not, false≢true, List, ℕ, suc, arith, ltb-false, eqb-true}
 use Rattle.laws.proofs.Prelude.{not-false, ltb, leb, eqb, Float, ℤ, pos, length, lt_z, Answer, refused, given, is_given, plus, minus, whole, equal}
 use Rattle.laws.proofs.Prelude.{lt_false}
@@ -22,7 +22,6 @@ use Rattle.row_statements.specs.Lent.{is_queue_short, is_lent_short, is_lent_tab
 use Rattle.row_statements.specs.State.{State, state_in, with_clip, is_stray, is_not_worked}
 use Rattle.row_statements.specs.Painting.{PaintCall, call_verdict, layer_verdict, layer_from, layer_in, part_for, PaintSays, paint_says, paint_out, PaintsLayer}
 use Rattle.row_statements.specs.InnerPaint.{painted_layer}
-use Rattle.row_statements.specs.declared.PaintAnswer.TheVariants.{Refused}
 use Rattle.row_statements.specs.declared.RowState.{RowState}
 use Rattle.row_statements.proofs.Works.{InRow, in_row_lem}
 
@@ -119,7 +118,7 @@ layer_passed table carries part id e =
 
 module _ (t : PaintSays) {v : Judgement} {state : State} {old : List Float} where
   -- a refusal leaves everything as it was
-  pub paints_refused : (s : RowState) {r : Refusal} → v ≡ refuse (number_of r) → state_in s ≡ state → PaintsLayer (paint_out v t state old) (record { state = s; answer = Refused r }) old
+  pub paints_refused : (s : RowState) {r : Refusal} → v ≡ refuse (number_of r) → state_in s ≡ state → PaintsLayer (paint_out v t state old) (record { state = s; answer = Err r }) old
   unfolding paint_out
   paints_refused s {r} e es = rw e (record { answer = refl; state = es; plane = refl })
 

@@ -1,7 +1,7 @@
 -- The claim of specs/Claim: between calls the caller holds the row's carries, each call keeps that, and what is held makes each call right.
 -- Assumes nothing.
-use Rattle.std.specs.Prelude.{◌≡◌, ◌+◌, ◌≤◌}
-use Rattle.laws.proofs.Prelude.{refl, ap, ap₂, sym, subst, ◌∙◌, Bool, true, false, cond, List, none, ℕ, arith, ltb-false, ltb, Float}
+use Rattle.std.specs.Prelude.{◌≡◌, ◌+◌, ◌≤◌, Ok}
+use Rattle.laws.proofs.Prelude.{refl, ap, ap₂, sym, subst, ◌∙◌, Bool, true, false, cond, List, None, ℕ, arith, ltb-false, ltb, Float}
 use Rattle.laws.proofs.Prelude.{ℤ, pos, length, Answer, refused, given, plus, clash, whole, equal}
 use Rattle.laws.proofs.Bools.{not-true}
 use Rattle.refusals.specs.Refusal.{Judgement, pass, refuse}
@@ -27,7 +27,6 @@ use Rattle.row_statements.specs.InnerHolding.{HoldsQueue, IsOpen, Holds}
 use Rattle.row_statements.specs.declared.RowState.{RowState}
 use Rattle.row_statements.specs.declared.TileWorked.{TileWorked}
 use Rattle.row_statements.specs.declared.Painted.{Painted}
-use Rattle.row_statements.specs.declared.Opened.TheVariants as opened
 use Rattle.row_statements.proofs.Openings.{opening_passed}
 use Rattle.row_statements.proofs.Holding.{holds_written}
 use Rattle.row_statements.proofs.WorkSteps.{right_work}
@@ -111,7 +110,7 @@ module _ (c : OpenCall) (lent back : Columns) (s : RowState) where
     pub state : state_in s ≡ open_state c.tile_y c.from c.to (length q)
     pub back_is : back ≡ queue_over q lent
 
-  pub accepted : OpensRow (open_of c lent) (opened.Row s) back → Accepted
+  pub accepted : OpensRow (open_of c lent) (Ok s) back → Accepted
   unfolding open_of q
   accepted g = by (open_verdict c lent) refl g.answer g.lent_is
     where
@@ -159,7 +158,7 @@ module _ (c : OpenCall) (lent back : Columns) (s : RowState) where
       record {
         state =
             a.state
-            ∙ ap₂ (λ (n : ℕ) (r : List Carry). record { tile_y = plus c.tile_y; from = plus c.from; to = plus c.to; next = n; left = length r; taken = 0; clip = none }) next first;
+            ∙ ap₂ (λ (n : ℕ) (r : List Carry). record { tile_y = plus c.tile_y; from = plus c.from; to = plus c.to; next = n; left = length r; taken = 0; clip = None }) next first;
         inside = omega (arith, t.ends.first);
         queue = subst (λ (r : List Carry). HoldsQueue r back) first holds;
         taken_long = holds.long;

@@ -1,6 +1,7 @@
 -- The claim is not empty: after every accepted opening, every list of choices is the list of some run's calls. Assumes nothing.
-use Rattle.std.specs.Prelude.{◌≡◌, ◌||◌, ◌∷◌, ◌+◌, ◌-◌}
-use Rattle.laws.proofs.Prelude.{refl, ap, sym, subst, ◌∙◌, Bool, not, List, [], Option, some, none, ℕ, suc, ltb, Float, pos}
+use Rattle.refusals.specs.declared.Refusal.{Refusal}
+use Rattle.std.specs.Prelude.{◌≡◌, ◌||◌, ◌∷◌, ◌+◌, ◌-◌, Result, Ok, Err}
+use Rattle.laws.proofs.Prelude.{refl, ap, sym, subst, ◌∙◌, Bool, not, List, [], Option, Some, None, ℕ, suc, ltb, Float, pos}
 use Rattle.laws.proofs.Prelude.{length, Answer, refused, given, is_given}
 use Rattle.refusals.specs.Refusal.{Judgement, pass, refuse, unless, and_then}
 use Rattle.refusals.proofs.Naming.{refusal_of, Named, named}
@@ -16,9 +17,6 @@ use Rattle.pass_statements.specs.Decision as decision
 use Rattle.pass_statements.specs.Decision.{TileDecision, solid, paint, decision_in}
 use Rattle.pass_statements.specs.declared.decide.Decision.{Decision}
 use Rattle.pass_statements.specs.declared.decide.Decision.TheVariants.{None, Solid, Paint}
-use Rattle.painter.specs.declared.Clip as painter
-use Rattle.painter.specs.declared.Clip.TheVariants.{Absent, Until}
-use Rattle.painter.specs.Clip.{clip_in}
 use Rattle.painter.specs.Painting.{is_light_in}
 use Rattle.row_statements.specs.Lent.{Columns, LentTable, is_queue_short, is_list_short, layers_of, is_lent_table}
 use Rattle.row_statements.specs.State.{State, state_in, is_wrong_next, is_wrong_worked}
@@ -32,30 +30,18 @@ use Rattle.row_statements.specs.InnerHolding.{IsOpen, Holds}
 use Rattle.row_statements.specs.declared.RowState.{RowState}
 use Rattle.row_statements.specs.declared.TileDone.{TileDone}
 use Rattle.row_statements.specs.declared.TileWorked.{TileWorked}
-use Rattle.row_statements.specs.declared.WorkAnswer.{WorkAnswer}
-use Rattle.row_statements.specs.declared.WorkAnswer.TheVariants as worked
 use Rattle.row_statements.specs.declared.Painted.{Painted}
-use Rattle.row_statements.specs.declared.PaintAnswer.{PaintAnswer}
-use Rattle.row_statements.specs.declared.PaintAnswer.TheVariants as painted
 use Rattle.row_statements.proofs.WorkSteps.{work_due_lem, right_work}
 use Rattle.row_statements.proofs.PaintSteps.{paint_due_lem, right_paint}
 use Rattle.row_statements.proofs.Run.{still_holds}
 
 -- ---- an answer of the code for what is due
 
-abbrev pub clip_out : Option ℕ → painter.Clip
-clip_out none = Absent
-clip_out (some last) = Until last
-
-clip_back : (clip : Option ℕ) → clip_in (clip_out clip) ≡ clip
-clip_back none = refl
-clip_back (some last) = refl
-
 abbrev pub state_out : State → RowState
-state_out s = record { tile_y = s.tile_y; from = s.from; to = s.to; next = s.next; left = s.left; taken = s.taken; clip = clip_out s.clip }
+state_out s = record { tile_y = s.tile_y; from = s.from; to = s.to; next = s.next; left = s.left; taken = s.taken; clip = s.clip }
 
 pub state_back : (s : State) → state_in (state_out s) ≡ s
-state_back s = ap (λ (clip : Option ℕ). record { tile_y = s.tile_y; from = s.from; to = s.to; next = s.next; left = s.left; taken = s.taken; clip = clip }) (clip_back s.clip)
+state_back s = refl
 
 abbrev pub decision_out : TileDecision → Decision
 decision_out decision.none = None
@@ -70,13 +56,13 @@ decision_back paint = refl
 abbrev pub told_out : TileAnswer → TileDone
 told_out t = record { decision = decision_out t.decision; listed = t.listed; skipped = record { 0 = t.skipped } }
 
-abbrev pub worked_out : Answer TileAnswer → WorkAnswer
-worked_out (refused n) = worked.Refused (refusal_of n)
-worked_out (given t) = worked.Done (told_out t)
+abbrev pub worked_out : Answer TileAnswer → Result TileDone Refusal
+worked_out (refused n) = Err (refusal_of n)
+worked_out (given t) = Ok (told_out t)
 
-abbrev pub painted_out : Answer ℕ → PaintAnswer
-painted_out (refused n) = painted.Refused (refusal_of n)
-painted_out (given mark) = painted.Mark mark
+abbrev pub painted_out : Answer ℕ → Result ℕ Refusal
+painted_out (refused n) = Err (refusal_of n)
+painted_out (given mark) = Ok mark
 
 -- ---- every number that is due is one of the table
 

@@ -1,6 +1,8 @@
 -- A tile work in a run: what it gives is what is due, and what the caller then holds is again the row's. Assumes nothing.
-use Rattle.std.specs.Prelude.{◌≡◌, ◌||◌, ◌+◌, ◌≤◌}
-use Rattle.laws.proofs.Prelude.{refl, ap, ap₂, sym, subst, ◌∙◌, Bool, true, false, not, List, map, none, ℕ, suc, arith, le-ltb}
+use Rattle.row_statements.specs.declared.TileDone.{TileDone}
+use Rattle.refusals.specs.declared.Refusal.{Refusal}
+use Rattle.std.specs.Prelude.{◌≡◌, ◌||◌, ◌+◌, ◌≤◌, Result, Ok, Err}
+use Rattle.laws.proofs.Prelude.{refl, ap, ap₂, sym, subst, ◌∙◌, Bool, true, false, not, List, map, None, ℕ, suc, arith, le-ltb}
 use Rattle.laws.proofs.Prelude.{leb-false, leb, eqb, ℤ, pos, length, take, drop, length-map, take_at, lt_z, refused, plus, over}
 use Rattle.refusals.specs.Refusal.{Judgement, pass, refuse, unless, and_then}
 use Rattle.refusals.proofs.Judging.{passed, or_left, or_right}
@@ -15,7 +17,7 @@ use Rattle.layer_carrying.proofs.Handing.{handed_few}
 use Rattle.tile_layers.proofs.Wide.{list_wide}
 use Rattle.pass_statements.specs.Item.{item_of}
 use Rattle.pass_statements.proofs.Words.{outcome_long}
-use Rattle.layer_workbench.specs.Work.{entry_of, outcome_by_entries, outcome_in, clear_unchanged, count_from}
+use Rattle.layer_workbench.specs.Work.{entry_of, outcome_by_entries, outcome_in, clear_unchanged}
 use Rattle.layer_workbench.proofs.Entries.{entries_are}
 use Rattle.row_carries.proofs.Carried.{queue_next, queue_ascends, queue_wide}
 use Rattle.row_statements.specs.Lent.{Columns, carries_in, is_queue_short, queue_over, is_list_short, entries_in}
@@ -26,8 +28,6 @@ use Rattle.row_statements.specs.Run.{Held, SameCarries, work_on, held_after}
 use Rattle.row_statements.specs.Claim.{RightWork}
 use Rattle.row_statements.specs.InnerHolding.{HoldsQueue, IsOpen, Holds}
 use Rattle.row_statements.specs.declared.TileWorked.{TileWorked}
-use Rattle.row_statements.specs.declared.WorkAnswer.{WorkAnswer}
-use Rattle.row_statements.specs.declared.WorkAnswer.TheVariants.{Refused, Done}
 use Rattle.row_statements.proofs.Works.{is_next, flags_room, list_passed}
 use Rattle.row_statements.proofs.Holding.{holds_written, same_holds}
 
@@ -135,7 +135,7 @@ module _ {o : OpenRow} {p : Past} {h : Held} (is_open : IsOpen o) (holds : Holds
     flags_long : length (says_on o p.tiles c).outcome.unmasked ≡ length (layers_on o p.tiles)
     unfolding outcome_by_entries
     flags_long =
-        outcome_long c.clear (clear_unchanged c.previous c.clear) (count_from (previous_count c.kept)) (map (item_of (table_on o)) (map (entry_of (table_on o)) (layers_on o p.tiles)))
+        outcome_long c.clear (clear_unchanged c.previous c.clear) (previous_count c.kept) (map (item_of (table_on o)) (map (entry_of (table_on o)) (layers_on o p.tiles)))
         ∙ length-map (map (entry_of (table_on o)) (layers_on o p.tiles)) (item_of (table_on o))
         ∙ length-map (layers_on o p.tiles) (entry_of (table_on o))
 
@@ -161,7 +161,7 @@ module _ {o : OpenRow} {p : Past} {h : Held} (is_open : IsOpen o) (holds : Holds
   next_due : next_state (state_on o p) (length (queue_on o (suc p.tiles))) ≡ state_on o (past_work pass p)
   next_due =
       let next : o.from + p.tiles + 1 ≡ o.from + suc p.tiles = omega arith in
-      ap (λ (t : ℕ). record { tile_y = o.tile_y; from = o.from; to = o.to; next = t; left = length (queue_on o (suc p.tiles)); taken = length (queue_on o p.tiles); clip = none }) next
+      ap (λ (t : ℕ). record { tile_y = o.tile_y; from = o.from; to = o.to; next = t; left = length (queue_on o (suc p.tiles)); taken = length (queue_on o p.tiles); clip = None }) next
 
   -- what the caller holds past the tile
   pub past_tile : {s : State} {k : Columns} → work_due_verdict o p.tiles c ≡ pass → s ≡ next_state (state_on o p) (length (queue_on o (suc p.tiles))) → k ≡ queue_over (queue_on o (suc p.tiles)) c.lent.queue → Holds o (past_work pass p) (record { state = s; queue = k; taken = c.queue })
@@ -179,16 +179,16 @@ module _ {o : OpenRow} {p : Past} {h : Held} (is_open : IsOpen o) (holds : Holds
       }
 
   -- and after the call
-  after_work : {s : State} {back : WorkLent} (ans : WorkAnswer) (v : Judgement) → work_due_verdict o p.tiles c ≡ v
+  after_work : {s : State} {back : WorkLent} (ans : Result TileDone Refusal) (v : Judgement) → work_due_verdict o p.tiles c ≡ v
       → work_answer ans ≡ (work_out v (says_on o p.tiles c) (state_on o p) c.kept c.lent).answer
       → s ≡ (work_out v (says_on o p.tiles c) (state_on o p) c.kept c.lent).state
       → back ≡ (work_out v (says_on o p.tiles c) (state_on o p) c.kept c.lent).lent
       → Holds o (past_work v p) (held_after ans s h c.queue back)
   unfolding work_out
-  after_work (Refused k) (refuse n) e ea es el = record { state = es; inside = holds.inside; queue = holds.queue; taken_long = holds.taken_long; took = holds.took }
-  after_work (Refused k) pass e ea es el = absurd (let z : ◌≡◌ {A = ℕ} 0 1 = cc in omega arith)
-  after_work (Done d) (refuse n) e ea es el = absurd (let z : ◌≡◌ {A = ℕ} 0 1 = cc in omega arith)
-  after_work (Done d) pass e ea es el = past_tile e es (ap (λ (b : WorkLent). b.queue) el)
+  after_work (Err k) (refuse n) e ea es el = record { state = es; inside = holds.inside; queue = holds.queue; taken_long = holds.taken_long; took = holds.took }
+  after_work (Err k) pass e ea es el = absurd (let z : ◌≡◌ {A = ℕ} 0 1 = cc in omega arith)
+  after_work (Ok d) (refuse n) e ea es el = absurd (let z : ◌≡◌ {A = ℕ} 0 1 = cc in omega arith)
+  after_work (Ok d) pass e ea es el = past_tile e es (ap (λ (b : WorkLent). b.queue) el)
 
   -- what is right of it
   pub right_work : {r : TileWorked} {back : WorkLent} → GivesWork (work_of (work_on o h c) c.lent) r back

@@ -1,7 +1,7 @@
 -- Demand 3, one claim about an accepted opening and any list of tile works and paintings after it, refused ones included: every call gives what is
 -- due of it (specs/Due), which is worked from the whole row. Beside it, what the row alone says of every tile. proofs/Run proves it; specs/Example
 -- has a run that meets its premises.
-use Rattle.std.specs.Prelude.{◌≡◌, ◌∷◌, ◌+◌, ◌<◌}
+use Rattle.std.specs.Prelude.{◌≡◌, ◌∷◌, ◌+◌, ◌<◌, Option, Ok}
 use Rattle.laws.specs.Prelude.{true, List, [], map, ℕ, suc, Float, length, get_or, take, replicate, refused}
 use Rattle.refusals.specs.Refusal.{pass, refuse}
 use Rattle.pixel_segment.specs.Field.{cpu}
@@ -16,7 +16,6 @@ use Rattle.tile_layers.specs.Listing.{no_listed}
 use Rattle.cached_tile.specs.declared.kept.Kept as kept
 use Rattle.layer_carrying.specs.Carrying.{rule_in}
 use Rattle.layer_workbench.specs.Work.{entry_of}
-use Rattle.layer_workbench.specs.declared.PreviousClear.{PreviousClear}
 use Rattle.row_carries.specs.Carries.{is_unlisted}
 use Rattle.row_carries.specs.Covering.{CoveredUnder}
 use Rattle.row_carries.specs.Listed.{ListedIs}
@@ -29,7 +28,6 @@ use Rattle.row_statements.specs.Run.{open_row, Held, held_first, Event, Run}
 use Rattle.row_statements.specs.declared.RowState.{RowState}
 use Rattle.row_statements.specs.declared.TileWorked.{TileWorked}
 use Rattle.row_statements.specs.declared.Painted.{Painted}
-use Rattle.row_statements.specs.declared.Opened.TheVariants as opened
 
 -- ---- what the whole row says of the tile from + n
 
@@ -45,7 +43,7 @@ pub record TileFacts (o : OpenRow) (n : ℕ) : Type 0 where
       row_plane cpu 16 rule (suc (o.from + n)) id o.row ≡ replicate 256 (coverage_of 0)
   -- whatever is kept and cleared, a layer passed over as covered lies under a shown opaque draw of higher id that no clip cuts, whose 256 coverages
   -- are all 1
-  pub covered : (k : kept.Kept) (clear : Color) (previous : PreviousClear) (i : ℕ) → i < (outcome_on o n k clear previous).skipped →
+  pub covered : (k : kept.Kept) (clear : Color) (previous : Option Color) (i : ℕ) → i < (outcome_on o n k clear previous).skipped →
       CoveredUnder (table_on o) o.row o.from n (outcome_on o n k clear previous) i
 
 -- ---- what is right of a call
@@ -97,6 +95,6 @@ abbrev pub Claim : Type 0
 Claim =
     (c : OpenCall) (lent back : Columns) (s : RowState) (es : List Event) (h : Held) →
     Words c.row →
-    OpensRow (open_of c lent) (opened.Row s) back →
+    OpensRow (open_of c lent) (Ok s) back →
     Run (open_row c) (held_first s back) es h →
     ((n : ℕ) → TileFacts (open_row c) n) × AllRight (open_row c) at_first es

@@ -2,7 +2,7 @@
 -- due to be accepted, and the caller's own choices. No answer, no queue and no state that a call gave back is looked at. The claim of specs/Claim
 -- compares every call with these definitions. Stands for 'what it compares with is worked by this document from the opening on'.
 use Rattle.std.specs.Prelude.{◌||◌, ◌+◌, ◌-◌}
-use Rattle.laws.specs.Prelude.{Bool, not, List, Option, none, ℕ, zero, suc, ltb, leb, eqb, Float, ℤ, pos, length, lt_z, plus}
+use Rattle.laws.specs.Prelude.{Bool, not, List, Option, None, ℕ, zero, suc, ltb, leb, eqb, Float, ℤ, pos, length, lt_z, plus}
 use Rattle.refusals.specs.Refusal.{Judgement, pass, refuse, unless}
 use Rattle.pixel_segment.specs.Field.{cpu}
 use Rattle.segment_rows.specs.Search.{tile_part}
@@ -18,7 +18,6 @@ use Rattle.tile_layers.specs.Listing.{Listed}
 use Rattle.pass_statements.specs.Decide.{Outcome}
 use Rattle.pass_statements.specs.Rules.{needs_clip}
 use Rattle.layer_workbench.specs.Work.{outcome_in}
-use Rattle.layer_workbench.specs.declared.PreviousClear.{PreviousClear}
 use Rattle.row_carries.specs.Carries.{queue_after, layers_at}
 use Rattle.row_carries.specs.Covering.{items_at}
 use Rattle.painter.specs.Clip.{alive_at, clip_after}
@@ -56,7 +55,7 @@ pub record Past : Type 0 where
 
 -- no tile is worked, and the painter has no clip
 abbrev pub at_first : Past
-at_first = record { tiles = 0; clip = none }
+at_first = record { tiles = 0; clip = None }
 
 -- how many carries the last of n tiles took in
 abbrev pub taken_on : OpenRow → ℕ → ℕ
@@ -74,7 +73,7 @@ pub record WorkChoice : Type 0 where
   pub tile : ℤ
   pub kept : kept.Kept
   pub clear : Color
-  pub previous : PreviousClear
+  pub previous : Option Color
   pub queue : Columns
   pub lent : WorkLent
 
@@ -91,7 +90,7 @@ work_due_verdict o n c =
     (list_verdict (table_on o) (layers_on o n))))
 
 -- what the tile from + n says: its layers, decision, masks and skips, and the carries past it
-abbrev pub outcome_on : OpenRow → ℕ → kept.Kept → Color → PreviousClear → Outcome
+abbrev pub outcome_on : OpenRow → ℕ → kept.Kept → Color → Option Color → Outcome
 outcome_on o n k clear previous = outcome_in (table_on o) k clear previous (layers_on o n)
 
 abbrev pub says_on : OpenRow → ℕ → WorkChoice → TileSays
@@ -103,7 +102,7 @@ work_due o p c = work_out (work_due_verdict o p.tiles c) (says_on o p.tiles c) (
 -- an accepted work ends a tile, and with it the painter's clip
 abbrev pub past_work : Judgement → Past → Past
 past_work (refuse number) p = p
-past_work pass p = record { tiles = suc p.tiles; clip = none }
+past_work pass p = record { tiles = suc p.tiles; clip = None }
 
 -- ---- painting
 

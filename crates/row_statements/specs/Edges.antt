@@ -1,7 +1,7 @@
 -- Both sides of the edges of an opening's refusals 1 to 4 and of a tile work's; those of 7 and 9 at an opening stand in queue_statements/specs/Edges.
 -- Stands for 'Turned down'.
 use Rattle.std.specs.Prelude.{◌≡◌, ◌∷◌}
-use Rattle.laws.specs.Prelude.{Bool, true, false, List, [], none, ℕ, nan, ℤ, pos, negsuc, replicate, tabulate}
+use Rattle.laws.specs.Prelude.{Bool, true, false, List, [], None, ℕ, nan, ℤ, pos, negsuc, replicate, tabulate}
 use Rattle.pixel_segment.specs.Field.{cpu}
 use Rattle.pixel_segment.specs.Pack.{word_of}
 use Rattle.layer_table.specs.Record.{layer_of}
@@ -11,7 +11,6 @@ use Rattle.styling.specs.declared.Layer.{Layer}
 use Rattle.queue_statements.specs.Queue.{is_queue}
 use Rattle.cached_tile.specs.declared.kept.Kept as kept
 use Rattle.tile_layers.specs.Listing.{Listed}
-use Rattle.layer_workbench.specs.declared.PreviousClear.TheVariants.{Absent}
 use Rattle.refusals.specs.Refusal.{Judgement, pass, refuse}
 use Rattle.row_statements.specs.Lent.{Columns, lent_table, columns, list_columns, is_list_short}
 use Rattle.row_statements.specs.State.{State}
@@ -47,17 +46,17 @@ abbrev tagged : Bool → ℕ → kept.Kept
 tagged given tag = record { given = given; tile = record { tags = tag; layer_count = replicate 3 0; solid_color = replicate 4 0 } }
 
 abbrev state_at : ℕ → ℕ → State
-state_at next left = record { tile_y = 0; from = 0; to = 4; next = next; left = left; taken = 0; clip = none }
+state_at next left = record { tile_y = 0; from = 0; to = 4; next = next; left = left; taken = 0; clip = None }
 
 abbrev worked_in : List ℕ → ℤ → ℕ → ℕ → ℕ → Judgement
 worked_in row tile a b tag =
-    args_verdict (work_call (state_at 2 2) tile row (lent_table [] [] 0) (tagged true tag) black Absent (columns (a ∷ b ∷ replicate 254 0) (replicate 4096 (pos 0)))) lent
+    args_verdict (work_call (state_at 2 2) tile row (lent_table [] [] 0) (tagged true tag) black None (columns (a ∷ b ∷ replicate 254 0) (replicate 4096 (pos 0)))) lent
 
 abbrev worked : ℤ → ℕ → ℕ → ℕ → Judgement
 worked tile a b tag = worked_in [] tile a b tag
 
 abbrev ending : ℕ → ℤ → Judgement
-ending next tile = args_verdict (work_call (state_at next 0) tile [] (lent_table [] [] 0) (tagged false 0) black Absent (room 256)) lent
+ending next tile = args_verdict (work_call (state_at next 0) tile [] (lent_table [] [] 0) (tagged false 0) black None (room 256)) lent
 
 abbrev lists : ℕ → ℕ → ℕ → Bool
 lists ids covers flags = is_list_short (list_columns (replicate ids 0) (replicate covers (pos 0)) (replicate flags false) (replicate 256 false))

@@ -1,7 +1,7 @@
 -- The claim is not empty: an accepted opening and a run after it that meet the claim's premises, in which an EvenOdd carry is dropped, a clip is
 -- painted, a layer is passed over as covered, and calls are refused by 1, 2, 6 and 8 between accepted ones, and by 3, 4 and 5 for another row, table and
 -- queue. proofs/Example has it.
-use Rattle.std.specs.Prelude.{◌≡◌, ◌∷◌, ◌++◌}
+use Rattle.std.specs.Prelude.{◌≡◌, ◌∷◌, ◌++◌, None, Ok}
 use Rattle.laws.specs.Prelude.{true, false, List, [], ℕ, binary32, of_bits, ℤ, pos, negsuc, replicate, tabulate}
 use Rattle.refusals.specs.Refusal.{Judgement, pass, refuse}
 use Rattle.pixel_segment.specs.Field.{cpu}
@@ -11,7 +11,6 @@ use Rattle.styling.specs.declared.Color.{Color}
 use Rattle.queue_statements.specs.Queue.{ids_in}
 use Rattle.cached_tile.specs.Kept.{no_tile}
 use Rattle.cached_tile.specs.declared.kept.Kept as kept
-use Rattle.layer_workbench.specs.declared.PreviousClear.TheVariants.{Absent}
 use Rattle.row_statements.specs.Lent.{Columns, ListColumns, LentTable}
 use Rattle.row_statements.specs.State.{State}
 use Rattle.row_statements.specs.Opening.{OpenCall, open_of, OpensRow}
@@ -21,7 +20,6 @@ use Rattle.row_statements.specs.Due.{OpenRow, Past, at_first, state_on, WorkChoi
 use Rattle.row_statements.specs.Run.{open_row, Held, held_first, Event, Run}
 use Rattle.row_statements.specs.Claim.{past_after}
 use Rattle.row_statements.specs.declared.RowState.{RowState}
-use Rattle.row_statements.specs.declared.Opened.TheVariants as opened
 
 -- ---- what is due of a list of calls
 
@@ -93,7 +91,7 @@ abbrev pub tagged : ℕ → kept.Kept
 tagged tag = record { given = true; tile = record { tags = tag; layer_count = 0 ∷ 0 ∷ 0 ∷ []; solid_color = 0 ∷ 0 ∷ 0 ∷ 0 ∷ [] } }
 
 abbrev pub work_of_tile : ℤ → kept.Kept → ℕ → WorkChoice
-work_of_tile tile k n = record { tile = tile; kept = k; clear = black; previous = Absent; queue = room 256; lent = record { queue = room n; list = list } }
+work_of_tile tile k n = record { tile = tile; kept = k; clear = black; previous = None; queue = room 256; lent = record { queue = room n; list = list } }
 
 abbrev working : ℤ → kept.Kept → ℕ → Choice
 working tile k n = Choice.work (work_of_tile tile k n)
@@ -129,7 +127,7 @@ pub record Ran : Type 0 where
   pub after : Held
   -- the claim's premises
   pub words : Words row
-  pub opens : OpensRow (open_of call (room 256)) (opened.Row state) back
+  pub opens : OpensRow (open_of call (room 256)) (Ok state) back
   pub runs : Run (open_row call) (held_first state back) events after
   -- which calls are refused, and by which number
   pub dues : dues_of (open_row call) at_first events
@@ -137,4 +135,4 @@ pub record Ran : Type 0 where
   -- layer 1's carry is dropped past tile 0
   pub dropped : (ids_in (queue_on (open_row call) 0) ≡ 1 ∷ 2 ∷ 3 ∷ 4 ∷ []) × (ids_in (queue_on (open_row call) 1) ≡ 2 ∷ 3 ∷ 4 ∷ [])
   -- the three layers below layer 4 are passed over as covered
-  pub skipped : (outcome_on (open_row call) 0 no_tile black Absent).skipped ≡ 3
+  pub skipped : (outcome_on (open_row call) 0 no_tile black None).skipped ≡ 3

@@ -1,5 +1,5 @@
 -- What the functions below the work on a tile ask and give.
-use Rattle.std.specs.Prelude.{◌≡◌, ◌*◌, ◌≤◌, ◌+◌}
+use Rattle.std.specs.Prelude.{◌≡◌, ◌*◌, ◌≤◌, ◌+◌, None, Ok, Err}
 use Rattle.laws.specs.Prelude.{Bool, List, ℕ, ℤ, length, plus, minus}
 use Rattle.refusals.specs.Refusal.{Judgement, pass, unless, and_then, judgement_in}
 use Rattle.refusals.specs.declared.Refusal.{Refusal}
@@ -12,7 +12,6 @@ use Rattle.tile_layers.specs.Listing.{Listed}
 use Rattle.tile_layers.specs.InnerWalk.{Walks}
 use Rattle.layer_workbench.specs.Work.{Rooms}
 use Rattle.layer_workbench.specs.declared.Worked.{Worked}
-use Rattle.painter.specs.declared.Clip.TheVariants.{Absent}
 use Rattle.row_statements.specs.Lent.{LentTable}
 use Rattle.row_statements.specs.State.{State, is_wrong_next}
 use Rattle.row_statements.specs.Conditions.{first_five}
@@ -20,7 +19,6 @@ use Rattle.row_statements.specs.TileWork.{WorkCall, WorkLent, WorkGiven, list_ve
 use Rattle.row_statements.specs.declared.ListJudged.{ListJudged}
 use Rattle.row_statements.specs.declared.RowState.{RowState}
 use Rattle.row_statements.specs.declared.TileWorked.{TileWorked}
-use Rattle.row_statements.specs.declared.WorkAnswer.TheVariants.{Refused, Done}
 
 -- 1 to 5 of a work or a listing, `short` being the condition of 1
 unfoldable pub judged_by : Bool → State → ℤ → List ℕ → LentTable → List ℕ → Judgement
@@ -39,14 +37,14 @@ pub record JudgesList (layers : List Layer) (ls : List Listed) (r : ListJudged) 
   pub listed : r.listed ≡ length ls
 
 abbrev pub refused_work : RowState → kept.Kept → Refusal → TileWorked
-refused_work s k r = record { state = s; kept = k; answer = Refused r }
+refused_work s k r = record { state = s; kept = k; answer = Err r }
 
 abbrev pub done_work : RowState → Worked → TileWorked
 done_work s w =
     record {
-      state = record { tile_y = s.tile_y; from = s.from; to = s.to; next = s.next + 1; left = w.left; taken = s.left; clip = Absent };
+      state = record { tile_y = s.tile_y; from = s.from; to = s.to; next = s.next + 1; left = w.left; taken = s.left; clip = None };
       kept = w.kept;
-      answer = Done (record { decision = w.decision; listed = w.listed; skipped = w.skipped });
+      answer = Ok (record { decision = w.decision; listed = w.listed; skipped = w.skipped });
     }
 
 -- what 1 to 6 leave: the tile is one of a row's, the queue and the tile's part ascend, the table is in order, and there is room

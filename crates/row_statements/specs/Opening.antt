@@ -1,8 +1,10 @@
 -- The opening of a tile row as a public operation (`paint_tile_row` up to its first tile): judged by 1 to 4, then by 7 and 9; the queue of carries
 -- from the segments left of `from`, and the state before the first tile. Stands for the clause on opening and for 'Turned down' at an opening; an
 -- empty row and from = to pass.
-use Rattle.std.specs.Prelude.{◌≡◌, ◌||◌}
-use Rattle.laws.specs.Prelude.{Bool, not, List, none, ℕ, suc, ℤ, pos, lt_z, Answer, refused, given, plus}
+use Rattle.row_statements.specs.declared.RowState.{RowState}
+use Rattle.refusals.specs.declared.Refusal.{Refusal}
+use Rattle.std.specs.Prelude.{◌≡◌, ◌||◌, Result, Ok, Err}
+use Rattle.laws.specs.Prelude.{Bool, not, List, None, ℕ, suc, ℤ, pos, lt_z, Answer, refused, given, plus}
 use Rattle.refusals.specs.Refusal.{Judgement, pass, refuse, unless, number_of}
 use Rattle.pixel_segment.specs.Field.{cpu}
 use Rattle.segment_rows.specs.Rows.{is_row}
@@ -11,8 +13,6 @@ use Rattle.queue_statements.specs.Queue.{Carry}
 use Rattle.queue_statements.specs.Opening.{open_queue, open_answer}
 use Rattle.row_statements.specs.Lent.{Columns, LentTable, is_queue_short, is_lent_short, is_lent_table, queue_over}
 use Rattle.row_statements.specs.State.{State, state_in}
-use Rattle.row_statements.specs.declared.Opened.{Opened}
-use Rattle.row_statements.specs.declared.Opened.TheVariants as opened
 
 -- what an opening is called with, beside the queue that it may write
 pub record OpenCall : Type 0 where
@@ -57,7 +57,7 @@ pub record OpenGiven : Type 0 where
 
 -- before the first tile n carries are left, none is taken in, and the painter has no clip
 abbrev pub open_state : ℤ → ℤ → ℤ → ℕ → State
-open_state tile_y from to n = record { tile_y = plus tile_y; from = plus from; to = plus to; next = plus from; left = n; taken = 0; clip = none }
+open_state tile_y from to n = record { tile_y = plus tile_y; from = plus from; to = plus to; next = plus from; left = n; taken = 0; clip = None }
 
 abbrev pub state_by : ℤ → ℤ → ℤ → Answer ℕ → Answer State
 state_by tile_y from to (refused number) = refused number
@@ -76,10 +76,10 @@ open_of c lent = open_out (open_count (open_verdict c lent) (left_of c)) c lent
 -- ---- the promise
 
 -- the cases of the code's answer
-abbrev pub opened_answer : Opened → Answer State
-opened_answer (opened.Row s) = given (state_in s)
-opened_answer (opened.Refused r) = refused (number_of r)
+abbrev pub opened_answer : Result RowState Refusal → Answer State
+opened_answer (Ok s) = given (state_in s)
+opened_answer (Err r) = refused (number_of r)
 
-pub record OpensRow (g : OpenGiven) (r : Opened) (back : Columns) : Type 0 where
+pub record OpensRow (g : OpenGiven) (r : Result RowState Refusal) (back : Columns) : Type 0 where
   pub answer : opened_answer r ≡ g.answer
   pub lent_is : back ≡ g.lent

@@ -1,6 +1,6 @@
 -- Both sides of the edges of a painting's refusals. Stands for 'Turned down'.
 use Rattle.std.specs.Prelude.{◌≡◌, ◌∷◌}
-use Rattle.laws.specs.Prelude.{List, [], none, ℕ, nan, ℤ, pos, negsuc, replicate}
+use Rattle.laws.specs.Prelude.{List, [], None, ℕ, nan, ℤ, pos, negsuc, replicate}
 use Rattle.pixel_segment.specs.Field.{cpu}
 use Rattle.pixel_segment.specs.Pack.{word_of}
 use Rattle.refusals.specs.Refusal.{Judgement, pass, refuse}
@@ -10,7 +10,7 @@ use Rattle.row_statements.specs.Painting.{paint_call, paint_verdict}
 
 -- row 0, tiles 0 to 4, of which the next is `next`; `taken` carries were taken in
 abbrev after : ℕ → ℕ → State
-after next taken = record { tile_y = 0; from = 0; to = 4; next = next; left = 0; taken = taken; clip = none }
+after next taken = record { tile_y = 0; from = 0; to = 4; next = next; left = 0; taken = taken; clip = None }
 
 -- a table of one draw, layer 5
 abbrev words : List ℕ

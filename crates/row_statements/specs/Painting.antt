@@ -1,9 +1,10 @@
 -- Painting a layer as a public operation (`paint_layer` of the Rust): judged by 1 to 5, then by 8 and 9 for the painted layer; then the painting of
 -- `painter` in the tile's part of the row, from the queue that the tile took in, and the state with the clip after it. Stands for 'One tile' from
 -- painting on, and for 'Turned down' at painting.
-use Rattle.std.specs.Prelude.{◌≡◌, ◌||◌}
+use Rattle.refusals.specs.declared.Refusal.{Refusal}
+use Rattle.std.specs.Prelude.{◌≡◌, ◌||◌, Result, Ok, Err}
 use Rattle.laws.specs.Prelude.{Bool, false, not, List, Option, ℕ, ltb, Float, ℤ, length, Answer, refused, given, is_given, over}
-use Rattle.refusals.specs.Refusal.{Judgement, pass, refuse, unless, and_then, number_of}
+use Rattle.refusals.specs.Refusal.{Judgement, pass, refuse, unless, and_then, number_of, given_or_refused}
 use Rattle.segment_rows.specs.Search.{tile_part}
 use Rattle.layer_table.specs.Lookup.{lookup}
 use Rattle.styling.specs.declared.FillRule.TheVariants.{NonZero}
@@ -15,8 +16,6 @@ use Rattle.painter.specs.Painting.{mark_in, plane_in, is_light_in}
 use Rattle.row_statements.specs.Lent.{Columns, LentTable, carries_in, is_queue_short, layers_of, is_lent_short}
 use Rattle.row_statements.specs.State.{State, state_in, with_clip, is_wrong_worked}
 use Rattle.row_statements.specs.Conditions.{first_five}
-use Rattle.row_statements.specs.declared.PaintAnswer.{PaintAnswer}
-use Rattle.row_statements.specs.declared.PaintAnswer.TheVariants.{Mark, Refused}
 use Rattle.row_statements.specs.declared.Painted.{Painted}
 
 -- what a painting is called with, beside the plane that it may write: `queue` is the one that the tile took in
@@ -102,12 +101,7 @@ paint_of c plane = paint_out (paint_verdict c plane) (paint_says (layers_of c.ta
 
 -- ---- the promise
 
--- the cases of the code's answer
-abbrev pub paint_answer : PaintAnswer → Answer ℕ
-paint_answer (Mark mark) = given mark
-paint_answer (Refused r) = refused (number_of r)
-
 pub record PaintsLayer (g : PaintGiven) (r : Painted) (back : List Float) : Type 0 where
-  pub answer : paint_answer r.answer ≡ g.answer
+  pub answer : given_or_refused r.answer ≡ g.answer
   pub state : state_in r.state ≡ g.state
   pub plane : back ≡ g.plane

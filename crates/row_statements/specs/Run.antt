@@ -1,6 +1,8 @@
 -- A run: an accepted opening's row, and any list of tile works and paintings after it, refused ones included, as the calls went. The premise of each
 -- step is the operation's own contract, at what the caller holds, chooses and lends.
-use Rattle.std.specs.Prelude.{◌≡◌, ◌∷◌}
+use Rattle.row_statements.specs.declared.TileDone.{TileDone}
+use Rattle.refusals.specs.declared.Refusal.{Refusal}
+use Rattle.std.specs.Prelude.{◌≡◌, ◌∷◌, Result, Ok, Err}
 use Rattle.laws.specs.Prelude.{List, [], ℕ, Float, plus}
 use Rattle.refusals.specs.Refusal.{refuse}
 use Rattle.queue_statements.specs.Queue.{is_queue}
@@ -12,8 +14,6 @@ use Rattle.row_statements.specs.Painting.{PaintCall, paint_verdict, paint_of, Pa
 use Rattle.row_statements.specs.Due.{OpenRow, WorkChoice, PaintChoice}
 use Rattle.row_statements.specs.declared.RowState.{RowState}
 use Rattle.row_statements.specs.declared.TileWorked.{TileWorked}
-use Rattle.row_statements.specs.declared.WorkAnswer.{WorkAnswer}
-use Rattle.row_statements.specs.declared.WorkAnswer.TheVariants.{Refused, Done}
 use Rattle.row_statements.specs.declared.Painted.{Painted}
 
 -- the row that an opening opens
@@ -53,9 +53,9 @@ abbrev pub paint_onto : OpenRow → Held → PaintChoice → PaintCall
 paint_onto o h c = record { state = h.state; tile = c.tile; layer = c.layer; row = o.row; table = o.table; queue = c.queue }
 
 -- what the caller holds after a work, by the answer that it got
-abbrev pub held_after : WorkAnswer → State → Held → Columns → WorkLent → Held
-held_after (Refused r) s h queue back = record { state = s; queue = h.queue; taken = h.taken }
-held_after (Done d) s h queue back = record { state = s; queue = back.queue; taken = queue }
+abbrev pub held_after : Result TileDone Refusal → State → Held → Columns → WorkLent → Held
+held_after (Err r) s h queue back = record { state = s; queue = h.queue; taken = h.taken }
+held_after (Ok d) s h queue back = record { state = s; queue = back.queue; taken = queue }
 
 pub data Step (o : OpenRow) : Held → Event → Held → Type 0 where
   work : {h : Held} {c : WorkChoice} {r : TileWorked} {back : WorkLent} →

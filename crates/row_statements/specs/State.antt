@@ -1,8 +1,7 @@
 -- Where a caller stands in a row, and refusal 2 of a tile. The clip is none, or the last layer id that it lives up to. Stands for 'a state passed by
 -- value' and for condition 2: 'tile not the next (in painting: not the one just worked) or outside from..to'.
 use Rattle.std.specs.Prelude.{◌||◌, ◌+◌}
-use Rattle.laws.specs.Prelude.{Bool, not, Option, none, ℕ, ltb, leb, eqb, ℤ, pos, lt_z, plus}
-use Rattle.painter.specs.Clip.{clip_in}
+use Rattle.laws.specs.Prelude.{Bool, not, Option, None, ℕ, ltb, leb, eqb, ℤ, pos, lt_z, plus}
 use Rattle.row_statements.specs.declared.RowState.{RowState}
 
 pub record State : Type 0 where
@@ -17,11 +16,11 @@ pub record State : Type 0 where
 
 -- the code's state in these terms
 abbrev pub state_in : RowState → State
-state_in s = record { tile_y = s.tile_y; from = s.from; to = s.to; next = s.next; left = s.left; taken = s.taken; clip = clip_in s.clip }
+state_in s = record { tile_y = s.tile_y; from = s.from; to = s.to; next = s.next; left = s.left; taken = s.taken; clip = s.clip }
 
 -- past a tile that handed on n carries: the next one is due, and the painter has no clip
 abbrev pub next_state : State → ℕ → State
-next_state s n = record { tile_y = s.tile_y; from = s.from; to = s.to; next = s.next + 1; left = n; taken = s.left; clip = none }
+next_state s n = record { tile_y = s.tile_y; from = s.from; to = s.to; next = s.next + 1; left = n; taken = s.left; clip = None }
 
 -- after a painting: the painter's clip, and all else as it was
 abbrev pub with_clip : State → Option ℕ → State

@@ -1,7 +1,8 @@
 -- The work on a tile as a public operation: judged by 1 to 9, the lowest that applies; a refusal says its number and leaves the state, the cached
 -- tile and every lent list as they were. Else the list, masks, skips, decision, cached tile and carries are those of `layer_workbench` for the
 -- tile's part of the row, and the state is the next one. Stands for 'One tile' up to painting and for 'Turned down' at tile work.
-use Rattle.std.specs.Prelude.{◌≡◌, ◌||◌}
+use Rattle.refusals.specs.declared.Refusal.{Refusal}
+use Rattle.std.specs.Prelude.{◌≡◌, ◌||◌, Option, Result, Ok, Err}
 use Rattle.laws.specs.Prelude.{Bool, not, List, ℕ, ℤ, length, Answer, refused, given}
 use Rattle.refusals.specs.Refusal.{Judgement, pass, refuse, unless, and_then, number_of}
 use Rattle.segment_rows.specs.Search.{tile_part}
@@ -15,14 +16,11 @@ use Rattle.layer_carrying.specs.Carrying.{handed_on}
 use Rattle.pass_statements.specs.Decision.{TileDecision, decision_in}
 use Rattle.pass_statements.specs.Decide.{Outcome}
 use Rattle.layer_workbench.specs.Work.{outcome_in, kept_after}
-use Rattle.layer_workbench.specs.declared.PreviousClear.{PreviousClear}
 use Rattle.row_statements.specs.Lent.{Columns, ListColumns, LentTable, carries_in, is_queue_short, queue_over, is_list_short, list_over, layers_of, is_lent_short}
 use Rattle.row_statements.specs.State.{State, state_in, next_state, is_wrong_next}
 use Rattle.row_statements.specs.Conditions.{first_five}
 use Rattle.row_statements.specs.declared.TileDone.{TileDone}
 use Rattle.row_statements.specs.declared.TileWorked.{TileWorked}
-use Rattle.row_statements.specs.declared.WorkAnswer.{WorkAnswer}
-use Rattle.row_statements.specs.declared.WorkAnswer.TheVariants.{Refused, Done}
 
 -- what a work is called with: `queue` is the one that comes in
 pub record WorkCall : Type 0 where
@@ -32,10 +30,10 @@ pub record WorkCall : Type 0 where
   pub table : LentTable
   pub kept : kept.Kept
   pub clear : Color
-  pub previous : PreviousClear
+  pub previous : Option Color
   pub queue : Columns
 
-abbrev pub work_call : State → ℤ → List ℕ → LentTable → kept.Kept → Color → PreviousClear → Columns → WorkCall
+abbrev pub work_call : State → ℤ → List ℕ → LentTable → kept.Kept → Color → Option Color → Columns → WorkCall
 work_call state tile row table k clear previous queue =
     record { state = state; tile = tile; row = row; table = table; kept = k; clear = clear; previous = previous; queue = queue }
 
@@ -130,9 +128,9 @@ work_of c lent = work_out (work_verdict c lent) (says_for c) c.state c.kept lent
 abbrev pub tile_answer_in : TileDone → TileAnswer
 tile_answer_in d = record { decision = decision_in d.decision; listed = d.listed; skipped = d.skipped.0 }
 
-abbrev pub work_answer : WorkAnswer → Answer TileAnswer
-work_answer (Refused r) = refused (number_of r)
-work_answer (Done d) = given (tile_answer_in d)
+abbrev pub work_answer : Result TileDone Refusal → Answer TileAnswer
+work_answer (Err r) = refused (number_of r)
+work_answer (Ok d) = given (tile_answer_in d)
 
 pub record GivesWork (g : WorkGiven) (r : TileWorked) (back : WorkLent) : Type 0 where
   pub answer : work_answer r.answer ≡ g.answer

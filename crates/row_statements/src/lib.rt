@@ -4,10 +4,9 @@
 #![tactic(auto)]
 
 use cached_tile::kept::Kept;
-use painter::Clip;
 use pass_statements::Index;
 use pass_statements::decide::Decision;
-use refusals::{Refusal, Verdict};
+use refusals::Refusal;
 
 // Where a caller stands in a row: the row and its tiles from..to, the next tile, how many carries are left in the queue
 // and how many the last tile took in, and the painter's clip.
@@ -19,20 +18,13 @@ pub struct RowState {
     pub next: u32,
     pub left: usize,
     pub taken: usize,
-    pub clip: Clip,
-}
-
-// What an opening answers: the state before the first tile, or why it is turned down.
-#[derive(Clone, Copy)]
-pub enum Opened {
-    Row(RowState),
-    Refused(Refusal),
+    pub clip: Option<u32>,
 }
 
 // What the judge of a tile's layers says, and how many they are.
 #[derive(Clone, Copy)]
 pub struct ListJudged {
-    pub verdict: Verdict,
+    pub verdict: Result<(), Refusal>,
     pub listed: usize,
 }
 
@@ -44,29 +36,16 @@ pub struct TileDone {
     pub skipped: Index,
 }
 
-#[derive(Clone, Copy)]
-pub enum WorkAnswer {
-    Refused(Refusal),
-    Done(TileDone),
-}
-
 // The state and the cached tile after a work, which a refusal leaves equal, and its answer.
 #[derive(Clone, Copy)]
 pub struct TileWorked {
     pub state: RowState,
     pub kept: Kept,
-    pub answer: WorkAnswer,
-}
-
-// What painting answers: the mark, or why it is turned down.
-#[derive(Clone, Copy)]
-pub enum PaintAnswer {
-    Mark(u32),
-    Refused(Refusal),
+    pub answer: Result<TileDone, Refusal>,
 }
 
 #[derive(Clone, Copy)]
 pub struct Painted {
     pub state: RowState,
-    pub answer: PaintAnswer,
+    pub answer: Result<u32, Refusal>,
 }

@@ -1,11 +1,11 @@
 -- The text of the lines that a driver told is that of the driven row.
 -- Assumes nothing.
-use Rattle.std.specs.Prelude.{◌≡◌, ◌∷◌, ◌++◌, ◌+◌, ◌*◌, ◌≤◌}
+use Rattle.refusals.specs.declared.Refusal.{Refusal}
+use Rattle.std.specs.Prelude.{◌≡◌, ◌∷◌, ◌++◌, ◌+◌, ◌*◌, ◌≤◌, Result}
 use Rattle.laws.proofs.Prelude.{refl, ap, ap₂, sym, subst, ◌∙◌, List, [], append-nil, append_assoc, flatten, ℕ, zero, suc}
 use Rattle.laws.proofs.Prelude.{add-zero, arith, Float, length, drop, get_or, length-append, plus, over}
 use Rattle.row_lines.specs.Lines.{line_words, lines_words}
 use Rattle.row_lines.specs.Driven.{Driving, LinesWritten, lines_written, Drives}
-use Rattle.row_lines.specs.declared.Driven.{Driven}
 use Rattle.row_lines.specs.declared.Line.{Line}
 use Rattle.job_text_statements.specs.declared.Head.{Head}
 use Rattle.job_statements.proofs.Records.{length_parts}
@@ -55,7 +55,7 @@ length_words ls = omega (arith, length_parts 5 line_words (λ l. refl) ls)
 
 -- ---- what a driver told
 
-module _ {d : Driving} {old : List ℕ} {r : Driven} {told : List ℕ} (g : Drives d old r told) where
+module _ {d : Driving} {old : List ℕ} {r : Result ℕ (Refusal × ℕ)} {told : List ℕ} (g : Drives d old r told) where
   told_text_lem : (first : ℕ) → told_text told first (lines_written r) ≡ driving_text first d
   unfolding told_text driving_text over
   told_text_lem first =
@@ -74,7 +74,7 @@ module _ {d : Driving} {old : List ℕ} {r : Driven} {told : List ℕ} (g : Driv
 
 -- ---- a row that is driven
 
-module _ (h : Head) (row words : List ℕ) (floats : List Float) (count : ℕ) {lines : List ℕ} {r : Driven} {told : List ℕ} (g : Drives (head_driving h row words floats count) lines r told) {first : ℕ} (e : first ≡ plus h.from) where
+module _ (h : Head) (row words : List ℕ) (floats : List Float) (count : ℕ) {lines : List ℕ} {r : Result ℕ (Refusal × ℕ)} {told : List ℕ} (g : Drives (head_driving h row words floats count) lines r told) {first : ℕ} (e : first ≡ plus h.from) where
   pub all_told : {out : List ℕ} → length told ≡ 20475 → plus h.from ≤ 2147483647 → answer_room ≤ length out → Tells told first (lines_written r) out
   all_told l low room = tells g l (omega arith) room
 

@@ -8,7 +8,7 @@ ghost use Rattle.input_front.specs.Front.{HoldsFront};
 ghost use Rattle.report.specs.Put.{LineWritten};
 ghost use Rattle.row_answer.specs.Answer.{driving_text, head_driving, answer_text, answer_room};
 
-use job_statements::Reading;
+use job_statements::JobError;
 use job_text_statements::Head;
 use std::io;
 use std::io::{Read, Write};
@@ -45,20 +45,21 @@ pub fn answer(text: &[u8], out: &mut [u8; 249850]) -> usize
     let mut colors = [0.0f32; 256];
     let mut row = [0u64; 2048];
     match job::read_job(text, &mut layers, &mut colors, &mut row) {
-        Reading::Accepted(head, count, segments) => {
+        Ok(numbers) => {
+            let count = numbers.layers;
             let words = count * 8;
             let floats = count * 4;
             drive(
-                head,
-                &row[..segments],
+                numbers.head,
+                &row[..numbers.segments],
                 &layers[..words],
                 &colors[..floats],
                 count,
                 out,
             )
         }
-        Reading::NoRoom => 0,
-        Reading::Malformed => row_printing::print_refusal(out, 0, 10),
+        Err(JobError::NoRoom) => 0,
+        Err(JobError::Malformed) => row_printing::print_refusal(out, 0, 10),
     }
 }
 

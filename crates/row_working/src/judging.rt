@@ -13,7 +13,7 @@ ghost use Rattle.row_statements.specs.State.{state_in};
 ghost use Rattle.row_statements.specs.InnerWork.{judged_by, judged_with, JudgesList};
 
 use cached_tile::kept::Kept;
-use refusals::{Refusal, Verdict};
+use refusals::Refusal;
 use row_statements::{ListJudged, RowState};
 use segment_rows::order;
 
@@ -42,36 +42,36 @@ pub fn judge_row(
     colors: &[f32],
     count: usize,
     ids: &[u32],
-) -> Verdict
+) -> Result<(), Refusal>
     ensures { judgement_in result ≡ judged_by short (state_in state) tile row.now
         (lent_table layers.now colors.now count) ids.now }
 {
     if short {
-        return Verdict::Refuse(Refusal::Room);
+        return Err(Refusal::Room);
     }
     if row_state::is_wrong_next(state, tile) {
-        return Verdict::Refuse(Refusal::Tile);
+        return Err(Refusal::Tile);
     }
     if !order::is_row(row, state.tile_y as u64 + 1) {
-        return Verdict::Refuse(Refusal::Row);
+        return Err(Refusal::Row);
     }
     if !layer_table::is_table(layers, colors, count) {
-        return Verdict::Refuse(Refusal::Table);
+        return Err(Refusal::Table);
     }
     if !queue::is_queue(ids, state.left) {
-        return Verdict::Refuse(Refusal::Queue);
+        return Err(Refusal::Queue);
     }
-    Verdict::Pass
+    Ok(())
 }
 
 // Refusal 6.
-fn judge_tag(kept: Kept) -> Verdict
+fn judge_tag(kept: Kept) -> Result<(), Refusal>
     ensures { judgement_in result ≡ unless (tag_out_of_range kept) 6 pass }
 {
     if kept.is_tag_out_of_range() {
-        return Verdict::Refuse(Refusal::Tag);
+        return Err(Refusal::Tag);
     }
-    Verdict::Pass
+    Ok(())
 }
 
 // Refusals 1 to 6, the lowest that applies. `short` says whether 1 does.
@@ -85,14 +85,12 @@ pub fn judge_work(
     count: usize,
     kept: Kept,
     ids: &[u32],
-) -> Verdict
+) -> Result<(), Refusal>
     ensures { judgement_in result ≡ judged_with short (state_in state) tile row.now
         (lent_table layers.now colors.now count) kept ids.now }
 {
-    match judge_row(short, state, tile, row, layers, colors, count, ids) {
-        Verdict::Refuse(refusal) => Verdict::Refuse(refusal),
-        Verdict::Pass => judge_tag(kept),
-    }
+    judge_row(short, state, tile, row, layers, colors, count, ids)?;
+    judge_tag(kept)
 }
 
 // Refusals 7 to 9, the lowest that applies to the layers of a tile. Where none does, `sums` holds their carries.
@@ -117,24 +115,24 @@ pub fn judge_list(
     let listed = found.count;
     if 256 < listed {
         return ListJudged {
-            verdict: Verdict::Refuse(Refusal::Layers),
+            verdict: Err(Refusal::Layers),
             listed: listed,
         };
     }
     if !found.known {
         return ListJudged {
-            verdict: Verdict::Refuse(Refusal::Missing),
+            verdict: Err(Refusal::Missing),
             listed: listed,
         };
     }
     if !found.light {
         return ListJudged {
-            verdict: Verdict::Refuse(Refusal::Covers),
+            verdict: Err(Refusal::Covers),
             listed: listed,
         };
     }
     ListJudged {
-        verdict: Verdict::Pass,
+        verdict: Ok(()),
         listed: listed,
     }
 }

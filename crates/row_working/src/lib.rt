@@ -13,10 +13,9 @@ ghost use Rattle.row_statements.specs.InnerWork.{refused_work, done_work, WorkJu
 ghost use Rattle.row_working.specs.InnerPart.{PartJudged, WorksPart};
 
 use cached_tile::kept::{Kept, Settled};
-use layer_workbench::{PreviousClear, Worked};
-use painter::Clip;
-use refusals::{Refusal, Verdict};
-use row_statements::{RowState, TileDone, TileWorked, WorkAnswer};
+use layer_workbench::Worked;
+use refusals::Refusal;
+use row_statements::{RowState, TileDone, TileWorked};
 use segment_rows::parts;
 use styling::Color;
 
@@ -26,7 +25,7 @@ fn refuse(state: RowState, kept: Kept, refusal: Refusal) -> TileWorked
     TileWorked {
         state: state,
         kept: kept,
-        answer: WorkAnswer::Refused(refusal),
+        answer: Err(refusal),
     }
 }
 
@@ -47,7 +46,7 @@ fn done(state: RowState, worked: Worked) -> TileWorked
         next: state.next + 1,
         left: left,
         taken: state.left,
-        clip: Clip::Absent,
+        clip: None,
     };
     let told = TileDone {
         decision: decision,
@@ -57,7 +56,7 @@ fn done(state: RowState, worked: Worked) -> TileWorked
     TileWorked {
         state: next,
         kept: kept,
-        answer: WorkAnswer::Done(told),
+        answer: Ok(told),
     }
 }
 
@@ -71,7 +70,7 @@ pub fn work_part(
     count: usize,
     kept: Kept,
     clear: Color,
-    previous: PreviousClear,
+    previous: Option<Color>,
     ids: &[u32],
     covers: &[i8],
     next_ids: &mut [u32],
@@ -100,8 +99,8 @@ pub fn work_part(
     let judged = judging::judge_list(ids, covers, state.left, part, layers, colors, count, sums);
     let verdict = judged.verdict;
     match verdict {
-        Verdict::Refuse(refusal) => refuse(state, kept, refusal),
-        Verdict::Pass => done(
+        Err(refusal) => refuse(state, kept, refusal),
+        Ok(()) => done(
             state,
             layer_workbench::work(
                 ids,
@@ -137,7 +136,7 @@ pub fn work_judged(
     count: usize,
     kept: Kept,
     clear: Color,
-    previous: PreviousClear,
+    previous: Option<Color>,
     ids: &[u32],
     covers: &[i8],
     next_ids: &mut [u32],
@@ -199,7 +198,7 @@ pub fn work_tile(
     count: usize,
     kept: Kept,
     clear: Color,
-    previous: PreviousClear,
+    previous: Option<Color>,
     ids: &[u32],
     covers: &[i8],
     next_ids: &mut [u32],
@@ -227,8 +226,8 @@ pub fn work_tile(
         | layer_table::is_short(layers, colors, count)
         | judging::is_list_short(list_ids, list_covers, list_flags, list_unmasked);
     match judging::judge_work(short, state, tile, row, layers, colors, count, kept, ids) {
-        Verdict::Refuse(refusal) => refuse(state, kept, refusal),
-        Verdict::Pass => work_judged(
+        Err(refusal) => refuse(state, kept, refusal),
+        Ok(()) => work_judged(
             state,
             tile,
             row,

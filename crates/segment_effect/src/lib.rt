@@ -14,18 +14,18 @@ use cover::Cover;
 use pixel_segment::PixelSegment;
 use segment_set_statements::SegmentSet;
 
-// The sum of two numbers, brought back into 16 bits. With a multiple of 65,536 and its half added, no sum is negative.
+// The sum of two numbers, brought back into 16 bits.
 fn add_area(a: i16, b: i16) -> i16
     ensures { result ≡ wrap 16 (a +ℤ b) }
 {
-    ((a as i32 + b as i32 + 98304) % 65536 - 32768) as i16
+    a.wrapping_add(b)
 }
 
 // The same in 8 bits.
 fn add_cover(a: i8, b: i8) -> i8
     ensures { result ≡ wrap 8 (a +ℤ b) }
 {
-    ((a as i16 + b as i16 + 384) % 256 - 128) as i8
+    a.wrapping_add(b)
 }
 
 // One amount added to d in column x of row y, another right of it.
@@ -34,12 +34,10 @@ fn spread(areas: &mut [i16], x: usize, y: usize, own: i16, past: i16)
     ensures { areas.new ≡ spread_by 16 x y own past areas.old }
 {
     let mut amount = own;
-    let mut column = x;
-    while column < 16 {
+    for column in x..16 {
         let k = column * 16 + y;
         areas[k] = add_area(areas[k], amount);
         amount = past;
-        column += 1;
     }
 }
 
@@ -59,15 +57,8 @@ fn raise(loads: [u16; 16], y: usize, by: u16) -> [u16; 16]
     ensures { result ≡ set loads y (get_or loads y 0 + by) }
 {
     let mut raised = loads;
-    raised[y] = loads[y] + by;
+    raised[y] += by;
     raised
-}
-
-// What is left of a load, no less than 0.
-fn less(load: u16, by: u16) -> u16
-    ensures { result ≡ load - by }
-{
-    if load < by { 0 } else { load - by }
 }
 
 // Loads with less in row y, and no less than 0.
@@ -76,7 +67,7 @@ fn lower(loads: [u16; 16], y: usize, by: u16) -> [u16; 16]
     ensures { result ≡ set loads y (get_or loads y 0 - by) }
 {
     let mut lowered = loads;
-    lowered[y] = less(loads[y], by);
+    lowered[y] = lowered[y].saturating_sub(by);
     lowered
 }
 

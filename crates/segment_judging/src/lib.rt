@@ -5,7 +5,6 @@ ghost use Rattle.std.specs.Prelude.{◌≡◌, ◌+◌, get_or};
 ghost use Rattle.laws.specs.Lists.{all};
 ghost use Rattle.refusals.specs.Refusal.{pass, judgement_in, unless};
 ghost use Rattle.pixel_segment.specs.Field.{cpu, local_y_of};
-ghost use Rattle.pixel_segment.specs.Order.{is_eq, compareℤ};
 ghost use Rattle.cover_statements.specs.Carry.{abs_cover};
 ghost use Rattle.segment_set_statements.specs.Set.{state, is_of, is_here, beginning};
 ghost use Rattle.segment_set_statements.specs.Set.{begin_verdict, take_verdict};
@@ -13,24 +12,15 @@ ghost use Rattle.segment_set_statements.specs.InnerSpread.{let_verdict_by};
 
 use cover::{Cover, carry};
 use pixel_segment::PixelSegment;
-use refusals::{Refusal, Verdict};
+use refusals::Refusal;
 use segment_set_statements::SegmentSet;
-
-// Whether two numbers are equal.
-fn is_same(a: i16, b: i16) -> bool
-    ensures { result ≡ is_eq (compareℤ a b) }
-{
-    !((a < b) | (b < a))
-}
 
 // Whether a segment is of a layer and a tile.
 fn is_of(layer_id: u32, tile_x: i16, tile_y: i16, word: u64) -> bool
     ensures { result ≡ is_of layer_id tile_x tile_y word }
 {
     let segment = PixelSegment(word);
-    (segment.layer_id() == layer_id)
-        & is_same(segment.tile_x(), tile_x)
-        & is_same(segment.tile_y(), tile_y)
+    (segment.layer_id() == layer_id) & (segment.tile_x() == tile_x) & (segment.tile_y() == tile_y)
 }
 
 // Whether all segments of a part are.
@@ -38,10 +28,8 @@ pub fn are_of(layer_id: u32, tile_x: i16, tile_y: i16, part: &[u64]) -> bool
     ensures { result ≡ all (is_of layer_id tile_x tile_y) part.now }
 {
     let mut ok = true;
-    let mut i = 0;
-    while i < part.len() {
-        ok = ok & is_of(layer_id, tile_x, tile_y, part[i]);
-        i += 1;
+    for word in part {
+        ok &= is_of(layer_id, tile_x, tile_y, *word);
     }
     ok
 }
@@ -70,16 +58,16 @@ fn load_with(loads: [u16; 16], word: u64) -> u32
 }
 
 // By whether the covers of a pixel row are too large, and whether the lent slots are too few.
-fn judge_load(is_heavy: bool, is_full: bool) -> Verdict
+fn judge_load(is_heavy: bool, is_full: bool) -> Result<(), Refusal>
     ensures { judgement_in result ≡ unless is_heavy 9 (unless is_full 13 pass) }
 {
     if is_heavy {
-        return Verdict::Refuse(Refusal::Covers);
+        return Err(Refusal::Covers);
     }
     if is_full {
-        return Verdict::Refuse(Refusal::Slots);
+        return Err(Refusal::Slots);
     }
-    Verdict::Pass
+    Ok(())
 }
 
 pub fn judge_beginning(
@@ -90,45 +78,50 @@ pub fn judge_beginning(
     part: &[u64],
     slots: &[u64],
     areas: &[i16],
-) -> Verdict
+) -> Result<(), Refusal>
     ensures { judgement_in result ≡ begin_verdict
         (beginning layer_id tile_x tile_y cover.covers part.now)
         slots.now areas.now }
 {
     if areas.len() < 256 {
-        return Verdict::Refuse(Refusal::Room);
+        return Err(Refusal::Room);
     }
     if !are_of(layer_id, tile_x, tile_y, part) {
-        return Verdict::Refuse(Refusal::Row);
+        return Err(Refusal::Row);
     }
     judge_load(!carry::is_light(part, cover), slots.len() < part.len())
 }
 
-pub fn judge_taking(set: SegmentSet, word: u64, slots: &[u64], areas: &[i16]) -> Verdict
+pub fn judge_taking(set: SegmentSet, word: u64, slots: &[u64], areas: &[i16]) -> Result<(), Refusal>
     ensures { judgement_in result ≡ take_verdict (state set slots.now areas.now) word }
 {
     if areas.len() < 256 {
-        return Verdict::Refuse(Refusal::Room);
+        return Err(Refusal::Room);
     }
     if !is_here(set, word) {
-        return Verdict::Refuse(Refusal::Row);
+        return Err(Refusal::Row);
     }
     let loads = set.loads;
     judge_load(127 < load_with(loads, word), slots.len() <= set.count)
 }
 
 // Of a word that was looked for.
-pub fn judge_letting(set: SegmentSet, word: u64, is_held: bool, areas: &[i16]) -> Verdict
+pub fn judge_letting(
+    set: SegmentSet,
+    word: u64,
+    is_held: bool,
+    areas: &[i16],
+) -> Result<(), Refusal>
     ensures { judgement_in result ≡ let_verdict_by set word is_held areas.now }
 {
     if areas.len() < 256 {
-        return Verdict::Refuse(Refusal::Room);
+        return Err(Refusal::Room);
     }
     if !is_here(set, word) {
-        return Verdict::Refuse(Refusal::Row);
+        return Err(Refusal::Row);
     }
     if !is_held {
-        return Verdict::Refuse(Refusal::NotHeld);
+        return Err(Refusal::NotHeld);
     }
-    Verdict::Pass
+    Ok(())
 }

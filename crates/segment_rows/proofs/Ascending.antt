@@ -57,9 +57,6 @@ module _ (f : ℕ → ℕ) where
     pub small : previous < bound
     pub whole : (eqb descents 0 && ascends_from f previous (drop i l)) ≡ ascends f l
 
-  pub counted_begin : (bound : ℕ) (l : List ℕ) → 0 < bound → Counted bound l 0 0 0
-  counted_begin bound l h = record { within = omega arith; most = omega arith; small = h; whole = refl }
-
   pub counted_next : {bound : ℕ} {l : List ℕ} {descents previous i : ℕ} (key : ℕ) → Counted bound l descents previous i → i < length l → key ≡ f (get_or l i 0) → key < bound
       → Counted bound l (descents + (previous + (bound - 1) - key) / bound) key (i + 1)
   counted_next {bound} {l} {descents} {previous} {i} key c h e k =

@@ -1,7 +1,7 @@
 -- Laws of a row in order, at every tile height: its first and last word tell the tile y of all. Assumes nothing.
-use Rattle.std.specs.Prelude.{◌≡◌, ◌&&◌, ◌∷◌, ◌-◌, ◌^◌, ◌≤◌, ◌<◌}
-use Rattle.laws.proofs.Prelude.{refl, sym, Bool, true, false, List, [], ℕ, arith, eqb-true, eq-eqb, eqb, length}
-use Rattle.laws.proofs.Prelude.{get_or, all, left, right, both, same, not_left, all_at, all_intro}
+use Rattle.std.specs.Prelude.{◌≡◌, ◌&&◌, ◌-◌, ◌^◌, ◌≤◌, ◌<◌}
+use Rattle.laws.proofs.Prelude.{Bool, true, List, ℕ, arith, eqb-true, eq-eqb, eqb, length}
+use Rattle.laws.proofs.Prelude.{get_or, all, left, right, both, same, all_at, all_intro}
 use lib.Pow.{shr_mono}
 use Rattle.pixel_segment.specs.Field.{tile_y_of}
 use Rattle.pixel_segment.specs.Order.{order_key}
@@ -12,14 +12,6 @@ use Rattle.pixel_segment.specs.Layout.{Keyed}
 -- tile y leads the order
 pub tile_y_ordered : (ws : List ℕ) → Keyed ws → (v w : ℕ) → v < 2 ^ 64 → w < 2 ^ 64 → order_key ws v ≤ order_key ws w → tile_y_of ws v ≤ tile_y_of ws w
 tile_y_ordered ws table v w hv hw h = rw (table.tile_y v hv, table.tile_y w hw) (shr_mono 33 h)
-
--- a row that descends is in no order
-pub descends : (ws : List ℕ) (t : ℕ) (row : List ℕ) → ascends (order_key ws) row ≡ false → false ≡ is_row ws t row
-descends ws t row h = sym (not_left (ascends (order_key ws) row) (all (λ w. eqb (tile_y_of ws w) t) row) h)
-
-pub no_words : (ws : List ℕ) (t : ℕ) (row : List ℕ) → length row ≡ 0 → ascends (order_key ws) row ≡ true → true ≡ is_row ws t row
-no_words ws t [] e h = sym (both (ascends (order_key ws) []) true h refl)
-no_words ws t (w ∷ rest) e h = absurd (omega arith)
 
 module _ (ws : List ℕ) (table : Keyed ws) (t : ℕ) (row : List ℕ) (small : (i : ℕ) → get_or row i 0 < 2 ^ 64) (some : 0 < length row) (up : ascends (order_key ws) row ≡ true) where
   ends : Bool

@@ -1,13 +1,11 @@
 -- `search_last_by_key`: the Rust's halving. `at w` is the rank of the element w: how its key compares with the key that is looked for, so
 -- one definition serves every key. Keys and parts take the table of widths as a parameter. On a slice that the key does not sort, the halving decides; on a sorted one see proofs/Sorted. Stands for
 -- the clause on `search_last_by_key`, P5.
-use Rattle.std.specs.Prelude.{◌∷◌, ◌+◌, ◌-◌, ◌/◌}
+use Rattle.std.specs.Prelude.{◌∷◌, ◌+◌, ◌-◌, ◌/◌, Result, Ok, Err}
 use Rattle.laws.specs.Prelude.{Bool, false, cond, List, [], ℕ, zero, suc, ltb, leb, ℤ, pos, length, get_or, take, drop}
 use Rattle.laws.specs.Prelude.{le_z}
 use Rattle.pixel_segment.specs.Field.{cpu, tile_x_of, tile_y_of, layer_id_of, tile_of}
 use Rattle.pixel_segment.specs.Order.{is_gt, compare_of, compareℤ, compare_bool}
-use Rattle.segment_rows.specs.declared.search.Found.{Found}
-use Rattle.segment_rows.specs.declared.search.Found.TheVariants.{At, Absent}
 use Rattle.segment_rows.specs.declared.search.Key.{Key}
 use Rattle.segment_rows.specs.declared.search.Key.TheVariants.{TileY, TileX, LayerId, TileXAtLeast, LayerIdAtLeast, TileYNotNegative}
 
@@ -17,9 +15,9 @@ pub data Place : Type 0 where
   absent : ℕ → Place
 
 -- what an answer of the code stands for
-abbrev pub place_in : Found → Place
-place_in (At i) = found i
-place_in (Absent i) = absent i
+abbrev pub place_in : Result ℕ ℕ → Place
+place_in (Ok i) = found i
+place_in (Err i) = absent i
 
 -- where the halving ends that looks at `len` elements from `start` on: in the left half where the middle element is above the key, else
 -- from the middle on. The first number bounds the turns: `len` turns are always enough

@@ -18,12 +18,10 @@ pub fn does_ascend_above(row: &[u64], offset: u32) -> bool
     let highest = (1u64 << bits) - 1;
     let mut descents: u64 = 0;
     let mut previous: u64 = 0;
-    let mut i = 0;
-    while i < row.len() {
-        let key = row[i] >> offset;
+    for word in row {
+        let key = *word >> offset;
         descents += (previous + highest - key) >> bits;
         previous = key;
-        i += 1;
     }
     descents == 0
 }
@@ -43,7 +41,7 @@ pub fn is_row_in(layout: Layout, row: &[u64], stored_tile_y: u64) -> bool
     if !does_ascend_in(layout, row) {
         return false;
     }
-    if row.len() == 0 {
+    if row.is_empty() {
         return true;
     }
     let first = consts::extract(layout, row[0], BitField::TileY);

@@ -5,17 +5,16 @@ ghost use Rattle.segment_rows.specs.Search.{place_in, after_of, between, left_pa
 ghost use Rattle.segment_rows.specs.Search.{left_part, tile_part, up_to_tile, layer_part};
 
 use crate::search;
-use crate::search::Found;
 use pixel_segment::consts::Layout;
 
 // The place after the one that a search found, or where one would stand.
-pub fn end_of(found: Found) -> usize
+pub fn end_of(found: Result<usize, usize>) -> usize
     requires { after_of (place_in found) < 2 ^ 64 }
     ensures { result ≡ after_of (place_in found) }
 {
     match found {
-        Found::At(i) => i + 1,
-        Found::Absent(i) => i,
+        Ok(i) => i + 1,
+        Err(i) => i,
     }
 }
 

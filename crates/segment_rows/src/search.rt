@@ -1,6 +1,7 @@
 // `search_last_by_key` (cpu/pixel_segment.rs): the last segment with a key, by halving. A key of the painter, with the
 // value that is looked for, is a value of `Key`, since there are no closures; each key has a function of its own, which
-// halves by the field as it is stored.
+// halves by the field as it is stored. A search answers the last place with the key, or as an `Err` where such an
+// element would stand.
 ghost use Rattle.std.specs.Prelude.{◌≡◌, cond, ◌+◌, ◌-◌, ◌/◌, ◌%◌, ◌^◌, ◌≤◌, ◌<◌, min, leb, pos, ◌+ℤ◌, length, get_or};
 ghost use Rattle.laws.specs.Integer.{plus};
 ghost use Rattle.pixel_segment.specs.Order.{compare_of, compare_bool};
@@ -11,6 +12,7 @@ ghost use Rattle.segment_rows.specs.InnerHalving.{HalfOf};
 
 use pixel_segment::consts;
 use pixel_segment::consts::{BitField, Layout};
+use std::cmp::Ordering;
 
 #[derive(Clone, Copy)]
 pub enum Key {
@@ -25,21 +27,11 @@ pub enum Key {
     TileYNotNegative(bool),
 }
 
-// The last place with the key, or none and where such an element would stand.
-#[derive(Clone, Copy)]
-pub enum Found {
-    At(usize),
-    Absent(usize),
-}
-
-// Above every number that a field has.
-const NO_FIELD: u32 = 4294967295;
-
 // A number that is not negative, as a natural one; 0 for one that is.
 pub fn natural(z: i32) -> u32
     ensures { result ≡ plus z }
 {
-    if z < 0 { 0 } else { z as u32 }
+    z.max(0) as u32
 }
 
 // A tile number as it is stored: plus 1, and 0 for what is then negative.
@@ -60,11 +52,7 @@ pub fn above_tile(tile: i16) -> u32
 pub fn above_layer_id(layer_id: u32) -> u32
     ensures { result ≡ min (layer_id + 1) (2 ^ 32 - 1) }
 {
-    if layer_id < NO_FIELD {
-        layer_id + 1
-    } else {
-        NO_FIELD
-    }
+    layer_id.saturating_add(1)
 }
 
 fn choose(is_first: bool, first: usize, second: usize) -> usize
@@ -122,51 +110,55 @@ pub fn halve(segments: &[u64], offset: u32, size: u64, above: u32) -> usize
 }
 
 // The last word whose field is the number before `above`. Short enough to be compiled once for each field, too.
-fn search_number(segments: &[u64], offset: u32, size: u64, above: u32) -> Found
+fn search_number(segments: &[u64], offset: u32, size: u64, above: u32) -> Result<usize, usize>
     requires { (offset < 64) × (0 < size) × (size < 2 ^ 32) }
     ensures { place_in result
         ≡ search_of (λ w. compare_of (w / 2 ^ offset % size + 1) above) segments.now }
 {
     let count = segments.len();
     if count == 0 {
-        return Found::Absent(0);
+        return Err(0);
     }
     let end = halve(segments, offset, size, above);
     let next = field_at(segments, offset, size, end) + 1;
-    if next == above {
-        return Found::At(end);
+    match next.cmp(&above) {
+        Ordering::Less => Err(end + 1),
+        Ordering::Equal => Ok(end),
+        Ordering::Greater => Err(end),
     }
-    if next < above {
-        return Found::Absent(end + 1);
-    }
-    Found::Absent(end)
 }
 
 // The last word whose field is, or is not, at least a start. Where that is wanted no word is above the key, so that the
 // halving would end at the last word. Short enough to be compiled once for each field, too.
-fn search_at_least(segments: &[u64], offset: u32, size: u64, start: u32, wanted: bool) -> Found
+fn search_at_least(
+    segments: &[u64],
+    offset: u32,
+    size: u64,
+    start: u32,
+    wanted: bool,
+) -> Result<usize, usize>
     requires { (offset < 64) × (0 < size) × (size ≤ 2 ^ 32) }
     ensures { place_in result
         ≡ search_of (λ w. compare_bool (leb start (w / 2 ^ offset % size)) wanted) segments.now }
 {
-    if segments.len() == 0 {
-        return Found::Absent(0);
+    if segments.is_empty() {
+        return Err(0);
     }
     if wanted {
         let last = segments.len() - 1;
         if start <= field_at(segments, offset, size, last) {
-            return Found::At(last);
+            return Ok(last);
         }
-        return Found::Absent(last + 1);
+        return Err(last + 1);
     }
     let end = halve(segments, offset, size, start);
     if field_at(segments, offset, size, end) < start {
-        return Found::At(end);
+        return Ok(end);
     }
-    Found::Absent(end)
+    Err(end)
 }
 
-pub fn search_last_by_key_in(layout: Layout, segments: &[u64], key: Key) -> Found
+pub fn search_last_by_key_in(layout: Layout, segments: &[u64], key: Key) -> Result<usize, usize>
     ensures { place_in result
         ≡ search_of (order_at_in (widths_of layout) key) segments.now }
 {
@@ -186,7 +178,11 @@ pub fn search_last_by_key_in(layout: Layout, segments: &[u64], key: Key) -> Foun
     }
 }
 
-pub fn search_last_by_tile_y_in(layout: Layout, segments: &[u64], tile_y: i16) -> Found
+pub fn search_last_by_tile_y_in(
+    layout: Layout,
+    segments: &[u64],
+    tile_y: i16,
+) -> Result<usize, usize>
     ensures { place_in result
         ≡ search_of (order_at_in (widths_of layout) (Key.TileY tile_y)) segments.now }
 {
@@ -199,7 +195,11 @@ pub fn search_last_by_tile_y_in(layout: Layout, segments: &[u64], tile_y: i16) -
     )
 }
 
-pub fn search_last_by_tile_x_in(layout: Layout, segments: &[u64], tile_x: i16) -> Found
+pub fn search_last_by_tile_x_in(
+    layout: Layout,
+    segments: &[u64],
+    tile_x: i16,
+) -> Result<usize, usize>
     ensures { place_in result
         ≡ search_of (order_at_in (widths_of layout) (Key.TileX tile_x)) segments.now }
 {
@@ -212,7 +212,11 @@ pub fn search_last_by_tile_x_in(layout: Layout, segments: &[u64], tile_x: i16) -
     )
 }
 
-pub fn search_last_by_layer_id_in(layout: Layout, segments: &[u64], layer_id: u32) -> Found
+pub fn search_last_by_layer_id_in(
+    layout: Layout,
+    segments: &[u64],
+    layer_id: u32,
+) -> Result<usize, usize>
     ensures { place_in result
         ≡ search_of (order_at_in (widths_of layout) (Key.LayerId layer_id)) segments.now }
 {
@@ -231,7 +235,7 @@ pub fn search_last_by_tile_x_at_least_in(
     segments: &[u64],
     start: i16,
     wanted: bool,
-) -> Found
+) -> Result<usize, usize>
     ensures { place_in result
         ≡ search_of (order_at_in (widths_of layout) (Key.TileXAtLeast start wanted)) segments.now }
 {
@@ -252,7 +256,7 @@ pub fn search_last_by_layer_id_at_least_in(
     segments: &[u64],
     start: u32,
     wanted: bool,
-) -> Found
+) -> Result<usize, usize>
     ensures { place_in result
         ≡ search_of (order_at_in (widths_of layout) (Key.LayerIdAtLeast start wanted)) segments.now }
 {
@@ -271,7 +275,7 @@ pub fn search_last_by_tile_y_not_negative_in(
     layout: Layout,
     segments: &[u64],
     wanted: bool,
-) -> Found
+) -> Result<usize, usize>
     ensures { place_in result
         ≡ search_of (order_at_in (widths_of layout) (Key.TileYNotNegative wanted)) segments.now }
 {
@@ -286,43 +290,51 @@ pub fn search_last_by_tile_y_not_negative_in(
 }
 
 // In tiles 16 pixels high.
-pub fn search_last_by_key(segments: &[u64], key: Key) -> Found
+pub fn search_last_by_key(segments: &[u64], key: Key) -> Result<usize, usize>
     ensures { place_in result ≡ search_of (order_at key) segments.now }
 {
     search_last_by_key_in(Layout::Cpu, segments, key)
 }
 
-pub fn search_last_by_tile_y(segments: &[u64], tile_y: i16) -> Found
+pub fn search_last_by_tile_y(segments: &[u64], tile_y: i16) -> Result<usize, usize>
     ensures { place_in result ≡ search_of (order_at (Key.TileY tile_y)) segments.now }
 {
     search_last_by_tile_y_in(Layout::Cpu, segments, tile_y)
 }
 
-pub fn search_last_by_tile_x(segments: &[u64], tile_x: i16) -> Found
+pub fn search_last_by_tile_x(segments: &[u64], tile_x: i16) -> Result<usize, usize>
     ensures { place_in result ≡ search_of (order_at (Key.TileX tile_x)) segments.now }
 {
     search_last_by_tile_x_in(Layout::Cpu, segments, tile_x)
 }
 
-pub fn search_last_by_layer_id(segments: &[u64], layer_id: u32) -> Found
+pub fn search_last_by_layer_id(segments: &[u64], layer_id: u32) -> Result<usize, usize>
     ensures { place_in result ≡ search_of (order_at (Key.LayerId layer_id)) segments.now }
 {
     search_last_by_layer_id_in(Layout::Cpu, segments, layer_id)
 }
 
-pub fn search_last_by_tile_x_at_least(segments: &[u64], start: i16, wanted: bool) -> Found
+pub fn search_last_by_tile_x_at_least(
+    segments: &[u64],
+    start: i16,
+    wanted: bool,
+) -> Result<usize, usize>
     ensures { place_in result ≡ search_of (order_at (Key.TileXAtLeast start wanted)) segments.now }
 {
     search_last_by_tile_x_at_least_in(Layout::Cpu, segments, start, wanted)
 }
 
-pub fn search_last_by_layer_id_at_least(segments: &[u64], start: u32, wanted: bool) -> Found
+pub fn search_last_by_layer_id_at_least(
+    segments: &[u64],
+    start: u32,
+    wanted: bool,
+) -> Result<usize, usize>
     ensures { place_in result ≡ search_of (order_at (Key.LayerIdAtLeast start wanted)) segments.now }
 {
     search_last_by_layer_id_at_least_in(Layout::Cpu, segments, start, wanted)
 }
 
-pub fn search_last_by_tile_y_not_negative(segments: &[u64], wanted: bool) -> Found
+pub fn search_last_by_tile_y_not_negative(segments: &[u64], wanted: bool) -> Result<usize, usize>
     ensures { place_in result ≡ search_of (order_at (Key.TileYNotNegative wanted)) segments.now }
 {
     search_last_by_tile_y_not_negative_in(Layout::Cpu, segments, wanted)

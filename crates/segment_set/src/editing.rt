@@ -28,11 +28,7 @@ pub fn add(set: SegmentSet, word: u64, slots: &mut [u64], areas: &mut [i16]) -> 
 pub fn held_count(count: usize, slots: &[u64]) -> usize
     ensures { result ≡ min count (length slots.now) }
 {
-    if count < slots.len() {
-        count
-    } else {
-        slots.len()
-    }
+    count.min(slots.len())
 }
 
 // The place of the first of the held words that is `word`, and their number where none is.
@@ -40,14 +36,10 @@ pub fn find(slots: &[u64], held: usize, word: u64) -> usize
     requires { held ≤ length slots.now }
     ensures { result ≡ held_place word (take held slots.now) }
 {
-    let mut i = 0;
-    while i < held {
-        if slots[i] == word {
-            return i;
-        }
-        i += 1;
-    }
-    i
+    slots[..held]
+        .iter()
+        .position(|slot| *slot == word)
+        .unwrap_or(held)
 }
 
 // A word removed from its place: the last held word stands there, and d, the carry and the loads are without it.
@@ -81,10 +73,8 @@ fn start_areas(covers: [i8; 16], areas: &mut [i16])
     requires { 256 ≤ length areas.old }
     ensures { areas.new ≡ over (areas_of cpu 16 (cover_at covers) []) areas.old }
 {
-    let mut k = 0;
-    while k < 256 {
+    for k in 0..256 {
         areas[k] = area_of(covers[k % 16]);
-        k += 1;
     }
 }
 
@@ -115,10 +105,8 @@ pub fn begin_with(
         loads: loads,
         count: 0,
     };
-    let mut i = 0;
-    while i < part.len() {
-        set = add(set, part[i], slots, areas);
-        i += 1;
+    for word in part {
+        set = add(set, *word, slots, areas);
     }
     set
 }

@@ -9,7 +9,6 @@ ghost use Rattle.segment_set_statements.specs.Set.{state, nothing, beginning, Gi
 ghost use Rattle.segment_set_statements.specs.Set.{begin_verdict, begin_of, take_verdict, take_of, let_verdict, let_of};
 
 use cover::Cover;
-use refusals::Verdict;
 use segment_set_statements::{Edited, SegmentSet};
 
 // A set of nothing: what a refused beginning gives.
@@ -22,8 +21,8 @@ fn empty_set() -> SegmentSet
         layer_id: 0,
         tile_x: 0,
         tile_y: 0,
-        carry: carry,
-        loads: loads,
+        carry,
+        loads,
         count: 0,
     }
 }
@@ -46,12 +45,12 @@ pub fn begin(
         result slots.new areas.new }
 {
     match segment_judging::judge_beginning(layer_id, tile_x, tile_y, cover, part, slots, areas) {
-        Verdict::Refuse(refusal) => Edited {
-            verdict: Verdict::Refuse(refusal),
+        Err(refusal) => Edited {
+            verdict: Err(refusal),
             set: empty_set(),
         },
-        Verdict::Pass => Edited {
-            verdict: Verdict::Pass,
+        Ok(()) => Edited {
+            verdict: Ok(()),
             set: editing::begin_with(layer_id, tile_x, tile_y, cover, part, slots, areas),
         },
     }
@@ -64,12 +63,12 @@ pub fn take_in(set: SegmentSet, word: u64, slots: &mut [u64], areas: &mut [i16])
         result slots.new areas.new }
 {
     match segment_judging::judge_taking(set, word, slots, areas) {
-        Verdict::Refuse(refusal) => Edited {
-            verdict: Verdict::Refuse(refusal),
-            set: set,
+        Err(refusal) => Edited {
+            verdict: Err(refusal),
+            set,
         },
-        Verdict::Pass => Edited {
-            verdict: Verdict::Pass,
+        Ok(()) => Edited {
+            verdict: Ok(()),
             set: editing::add(set, word, slots, areas),
         },
     }
@@ -84,12 +83,12 @@ pub fn let_out(set: SegmentSet, word: u64, slots: &mut [u64], areas: &mut [i16])
     let held = editing::held_count(set.count, slots);
     let place = editing::find(slots, held, word);
     match segment_judging::judge_letting(set, word, place < held, areas) {
-        Verdict::Refuse(refusal) => Edited {
-            verdict: Verdict::Refuse(refusal),
-            set: set,
+        Err(refusal) => Edited {
+            verdict: Err(refusal),
+            set,
         },
-        Verdict::Pass => Edited {
-            verdict: Verdict::Pass,
+        Ok(()) => Edited {
+            verdict: Ok(()),
             set: editing::remove(set, word, place, held, slots, areas),
         },
     }

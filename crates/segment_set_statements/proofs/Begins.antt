@@ -1,6 +1,6 @@
 -- A set begun with nothing and then word by word is the fresh working of the part. Assumes nothing.
 use Rattle.std.specs.Prelude.{◌≡◌, ◌∷◌, ◌++◌, ◌+◌, ◌%◌, ◌≤◌, ◌<◌, ◌+ℤ◌, ◌*ℤ◌}
-use Rattle.laws.proofs.Prelude.{refl, sym, ap, ap₂, ◌∙◌, true, List, [], map, ℕ}
+use Rattle.laws.proofs.Prelude.{sym, ap, ap₂, ◌∙◌, true, List, [], map, ℕ}
 use Rattle.laws.proofs.Prelude.{add-one, arith, ltb-false, not-false, eqb, ℤ, pos, nat_abs, +ℤ_idr, length, get_or, take, drop, set}
 use Rattle.laws.proofs.Prelude.{length-set, length-map, take-append-drop, List·getD-map, take_at, drop_at, take-suc, take_all}
 use Rattle.laws.proofs.Prelude.{length-take-le, over, all, filled, filled_more, filled_all, is_tabulate, length_over, sum_append}
@@ -78,9 +78,6 @@ pub record Starting (covers old : List ℤ) (k : ℕ) (new : List ℤ) : Type 0 
   pub drawn : new ≡ filled old (areas_of cpu 16 (cover_at covers) []) k
 
 module _ {covers old : List ℤ} where
-  pub start_areas : 256 ≤ length old → Starting covers old 0 old
-  start_areas h = record { reached = omega arith; room = h; long = refl; drawn = refl }
-
   pub next_area : {k : ℕ} {v : ℤ} {new : List ℤ} → Starting covers old k new → k < 256 → v ≡ pos 32 *ℤ cover_at covers (k % 16) → Starting covers old (k + 1) (set new k v)
   next_area {k} {v} {new} c h e =
       let d = areas_of cpu 16 (cover_at covers) [] in

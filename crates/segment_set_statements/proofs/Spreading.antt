@@ -1,7 +1,7 @@
 -- The loop that changes d in one pixel row, one column after another: the columns passed are changed, all else is as it was. Assumes nothing.
 use Rattle.std.specs.Prelude.{◌≡◌, ◌&&◌, ◌+◌, ◌*◌, ◌/◌, ◌%◌, ◌≤◌, ◌<◌, ◌+ℤ◌, ◌*ℤ◌}
 use Rattle.laws.proofs.Prelude.{refl, sym, ap, ap₂, ◌∙◌, Bool, true, false, cond, List, ⊎_elim, ℕ, arith}
-use Rattle.laws.proofs.Prelude.{le-leb, lt-leb, lt-ltb, le-ltb, eq-eqb, ne_eqb, eqb, leb, ltb, ℤ, pos, length, set, length-set, ext_get_or}
+use Rattle.laws.proofs.Prelude.{le-leb, lt-ltb, le-ltb, eq-eqb, ne_eqb, eqb, leb, ltb, ℤ, pos, length, set, length-set, ext_get_or}
 use Rattle.laws.proofs.Prelude.{get_or-set_same, get_or-set_other, eq_or_ne, le_or_lt, length_tabulate, get_d_tabulate, length_over, tabulate, over}
 use Rattle.pixel_segment.specs.Field.{local_x_of, local_y_of, cover_of, double_area_of}
 use Rattle.cover_statements.specs.Cover.{cover_at}
@@ -28,22 +28,6 @@ pub record Spreading (x y : ℕ) (own past : ℤ) (old : List ℤ) (column : ℕ
   pub at : (k : ℕ) → cover_at areas k ≡ cond (is_in x y k && ltb (k / 16) column) (changed x own past old k) (cover_at old k)
 
 module _ {x y : ℕ} {own past : ℤ} {old : List ℤ} where
-  pub spread_start : x < 16 → y < 16 → 256 ≤ length old → Spreading x y own past old x old
-  spread_start h l room =
-      record {
-        from = omega arith;
-        reached = omega arith;
-        low = l;
-        room = room;
-        long = refl;
-        at =
-            λ k.
-            ⊎_elim
-            (λ (q : x ≤ k / 16). rw (le-ltb (k / 16) x q, and-false (is_in x y k)))
-            (λ (q : k / 16 < x). rw (lt-leb x (k / 16) q, and-false (eqb y (k % 16))))
-            (le_or_lt x (k / 16));
-      }
-
   -- one column more: its own amount in the first, the other right of it
   module _ {column : ℕ} {areas : List ℤ} (s : Spreading x y own past old column areas) (h : column < 16) where
     here : cover_at areas (column * 16 + y) ≡ cover_at old (column * 16 + y)

@@ -1,6 +1,6 @@
 -- The loop that adds a part to a set of nothing: how it starts over d of the incoming cover, and what it leaves. Assumes nothing.
 use Rattle.std.specs.Prelude.{◌≡◌, ◌≤◌}
-use Rattle.laws.proofs.Prelude.{refl, sym, ap, ap₂, ◌∙◌, List, [], ℕ, arith, ℤ, length, take, length-take-le, over, length_over}
+use Rattle.laws.proofs.Prelude.{refl, sym, ap, ap₂, ◌∙◌, List, [], ℕ, arith, ℤ, length, over, length_over}
 use Rattle.pixel_segment.specs.Field.{cpu}
 use Rattle.cover_statements.specs.Area.{areas_of}
 use Rattle.cover_statements.specs.Cover.{cover_at}
@@ -37,19 +37,3 @@ module _ (b : Beginning) (slots : List ℕ) (areas start : List ℤ) (e : start 
 
   pub begin_end : {i : ℕ} {s : SetState} → Adding b slots start i s → length b.part ≤ i → s ≡ fresh_state b slots areas
   begin_end c h = add_end c h ∙ three refl refl (again b.part)
-
-  -- the lent lists keep their lengths
-  pub start_length : 256 ≤ length areas → length start ≡ length areas
-  start_length h = ap length e ∙ length_over areas (areas_of cpu 16 (cover_at b.incoming) []) (omega (arith, long))
-
--- and on the way too
-pub slots_length : {b : Beginning} {slots : List ℕ} {areas : List ℤ} {i : ℕ} {s : SetState} → Adding b slots areas i s → length s.slots ≡ length slots
-slots_length {b} {slots} {areas} {i} {s} c =
-    ap (λ (t : SetState). length t.slots) c.so_far
-    ∙ length_over slots (take i b.part) (omega (arith, c.begun.free, length-take-le i b.part c.reached, c.reached))
-
-pub areas_long : {b : Beginning} {slots : List ℕ} {areas : List ℤ} {i : ℕ} {s : SetState} → Adding b slots areas i s → length s.areas ≡ length areas
-areas_long {b} {slots} {areas} {i} {s} c =
-    let d = areas_of cpu 16 (cover_at b.incoming) (take i b.part) in
-    ap (λ (t : SetState). length t.areas) c.so_far
-    ∙ length_over areas d (omega (arith, c.begun.room, areas_length cpu 16 (cover_at b.incoming) (take i b.part)))

@@ -1,9 +1,9 @@
 -- Laws of wrapped numbers, over half the number of values that a width has. Assumes nothing.
-use Rattle.std.specs.Prelude.{◌≡◌, ◌+◌, ◌*◌, ◌^◌, ◌≤◌, ◌<◌, ◌/◌, ◌%◌, ◌+ℤ◌, ◌-ℤ◌}
-use Rattle.laws.proofs.Prelude.{refl, sym, ap, ◌∙◌, ℕ, arith, ℤ, pos, negsuc, nat_abs, sub_ℕ, SFits}
-use Rattle.laws.proofs.Prelude.{plus, minus, modℤ, Within, within, sfits, small, unique, lifted, remainder, whole, equal, added, taken, difference}
-use native.Mathlib.Nat.{div-le_self}
-use lib.Signed.{rem_z, quot_z}
+use Rattle.std.specs.Prelude.{◌≡◌, ◌+◌, ◌*◌, ◌^◌, ◌≤◌, ◌<◌, ◌+ℤ◌, ◌-ℤ◌}
+use Rattle.std.specs.Int.{int_wrap, int_wrapping_add}
+use Rattle.std.proofs.lemmas.Int.{int_wrap-add_right, int_wrap_fits, wrapping_add_is}
+use Rattle.laws.proofs.Prelude.{refl, sym, ap, ◌∙◌, ℕ, arith, ℤ, pos, nat_abs, sub_ℕ, w8, w16, SFits, ⊎_elim, le_or_lt}
+use Rattle.laws.proofs.Prelude.{plus, minus, modℤ, within, sfits, small, unique, whole, equal, added, taken, difference}
 use mir.Syntax.{Width}
 use mir.Val.{hbits}
 use Rattle.segment_set_statements.specs.Effect.{wrap}
@@ -12,13 +12,17 @@ use Rattle.segment_set_statements.specs.Effect.{wrap}
 abbrev pub wrap_by : ℕ → ℤ → ℤ
 wrap_by h z = sub_ℕ (modℤ (h + h) (z +ℤ pos h)) h
 
+-- a number of the range that differs from z by turns is what is left of z
+wrap_to : (h : ℕ) (z y : ℤ) (up down : ℕ) → plus y < h → minus y ≤ h → plus z + minus y + up * (h + h) ≡ minus z + plus y + down * (h + h) → wrap_by h z ≡ y
+wrap_to h z y up down a b e =
+    let s = added z (pos h) in
+    let t = added y (pos h) in
+    let m : modℤ (h + h) (z +ℤ pos h) ≡ plus (y +ℤ pos h) = unique (h + h) (z +ℤ pos h) up down (omega (arith, s, t)) (omega (arith, t)) in
+    ap (λ (n : ℕ). sub_ℕ n h) m ∙ equal (sub_ℕ (plus (y +ℤ pos h)) h) y (omega (arith, t, difference (plus (y +ℤ pos h)) h))
+
 -- a number that is there stays
 wrap_kept : (h : ℕ) (z : ℤ) → plus z < h → minus z ≤ h → wrap_by h z ≡ z
-wrap_kept h z a b =
-    let s = added z (pos h) in
-    let m : modℤ (h + h) (z +ℤ pos h) ≡ plus (z +ℤ pos h) = unique (h + h) (z +ℤ pos h) 0 0 (omega (arith, s)) (omega (arith, s)) in
-    ap (λ (n : ℕ). sub_ℕ n h) m
-    ∙ equal (sub_ℕ (plus (z +ℤ pos h)) h) z (omega (arith, s, difference (plus (z +ℤ pos h)) h))
+wrap_kept h z a b = wrap_to h z z 0 0 a b (omega arith)
 
 pub wrap_16 : (z : ℤ) → nat_abs z < 32768 → wrap 16 z ≡ z
 unfolding wrap
@@ -28,106 +32,64 @@ pub wrap_8 : (z : ℤ) → nat_abs z < 128 → wrap 8 z ≡ z
 unfolding wrap
 wrap_8 z h = wrap_kept 128 z (omega (arith, whole z)) (omega (arith, whole z))
 
--- ---- how the code wraps the sum of two numbers of a width w, in a wider one v: raised by 3 h, the remainder by 2 h, less h
+-- ---- how the library wraps
 
--- every number on the way fits, and the result is the wrapped sum
-pub record Wraps (w v : Width) (h : ℕ) (a b : ℤ) : Type 0 where
-  pub sum : SFits v (a +ℤ b)
-  pub raised : SFits v (a +ℤ b +ℤ pos (h + h + h))
-  pub quotient : SFits v (quot_z (a +ℤ b +ℤ pos (h + h + h)) (pos (h + h)))
-  pub rest : SFits v (rem_z (a +ℤ b +ℤ pos (h + h + h)) (pos (h + h)))
-  pub lowered : SFits v (rem_z (a +ℤ b +ℤ pos (h + h + h)) (pos (h + h)) -ℤ pos h)
-  pub narrow : SFits w (rem_z (a +ℤ b +ℤ pos (h + h + h)) (pos (h + h)) -ℤ pos h)
-  pub result : rem_z (a +ℤ b +ℤ pos (h + h + h)) (pos (h + h)) -ℤ pos h ≡ wrap_by h (a +ℤ b)
+module _ (w : Width) (h : ℕ) (half : 2 ^ hbits w ≡ h) (turn : int_wrap w (pos (h + h)) ≡ pos 0) where
+  -- a number raised by all values of the width wraps as it does
+  raised : (z : ℤ) → int_wrap w (z +ℤ pos (h + h)) ≡ int_wrap w z
+  raised z =
+      sym (int_wrap-add_right w z (pos (h + h)))
+      ∙ ap (λ (t : ℤ). int_wrap w (z +ℤ t)) turn
+      ∙ ap (int_wrap w) (equal (z +ℤ pos 0) z (omega (arith, added z (pos 0))))
 
-rem_natural : (u : ℤ) (m : ℕ) → minus u ≡ 0 → rem_z u (pos m) ≡ pos (plus u % m)
-rem_natural (pos n) m e = refl
-rem_natural (negsuc n) m e = absurd (omega arith)
+  fits : (y : ℤ) → plus y < h → minus y ≤ h → SFits w y
+  fits y a b = sfits w y (record { above = omega arith; below = omega arith })
 
-quot_natural : (u : ℤ) (m : ℕ) → minus u ≡ 0 → quot_z u (pos m) ≡ pos (plus u / m)
-quot_natural (pos n) m e = refl
-quot_natural (negsuc n) m e = absurd (omega arith)
+  -- within twice the range
+  wrap_is : (z : ℤ) → plus z < h + h → minus z ≤ h + h → int_wrap w z ≡ wrap_by h z
+  wrap_is z a b =
+      ⊎_elim
+      (λ (p : h ≤ plus z).
+      let y = z -ℤ pos (h + h) in
+      let t = taken z (pos (h + h)) in
+      let e : z ≡ y +ℤ pos (h + h) = equal z (y +ℤ pos (h + h)) (omega (arith, t, added y (pos (h + h)))) in
+      ap (int_wrap w) e ∙ raised y ∙ int_wrap_fits w y (fits y (omega (arith, t)) (omega (arith, t)))
+      ∙ sym (wrap_to h z y 0 1 (omega (arith, t)) (omega (arith, t)) (omega (arith, t))))
+      (λ (p : plus z < h).
+      ⊎_elim
+      (λ (q : minus z ≤ h). int_wrap_fits w z (fits z p q) ∙ sym (wrap_kept h z p q))
+      (λ (q : h < minus z).
+      let y = z +ℤ pos (h + h) in
+      let t = added z (pos (h + h)) in
+      sym (raised z) ∙ int_wrap_fits w y (fits y (omega (arith, t)) (omega (arith, t)))
+      ∙ sym (wrap_to h z y 1 0 (omega (arith, t)) (omega (arith, t)) (omega (arith, t))))
+      (le_or_lt (minus z) h))
+      (le_or_lt h (plus z))
 
-module _ (w v : Width) (h : ℕ) (half : 2 ^ hbits w ≡ h) (room : 5 * h < 2 ^ hbits v) (some : 0 < h) (a b : ℤ) (fa : SFits w a) (fb : SFits w b) where
-  abbrev raised : ℤ
-  raised = a +ℤ b +ℤ pos (h + h + h)
+turn_16 : int_wrap w16 (pos 65536) ≡ pos 0
+unfolding int_wrap
+turn_16 = refl
 
-  -- the sum, within twice the range; and what it is raised to
-  record Bounds : Type 0 where
-    above : plus (a +ℤ b) < h + h
-    below : minus (a +ℤ b) ≤ h + h
-    natural : minus raised ≡ 0
-    high : plus raised < 5 * h
-    same : plus raised + minus (a +ℤ b) ≡ plus (a +ℤ b) + (h + h + h)
+turn_8 : int_wrap w8 (pos 256) ≡ pos 0
+unfolding int_wrap
+turn_8 = refl
 
-  bounds : Bounds
-  bounds =
-      let s = added a b in
-      let r = added (a +ℤ b) (pos (h + h + h)) in
-      let x = within w a fa in
-      let y = within w b fb in
-      record {
-        above = omega (arith, s, x, y);
-        below = omega (arith, s, x, y);
-        natural = omega (arith, s, r, x, y);
-        high = omega (arith, s, r, x, y);
-        same = omega (arith, s, r, x, y);
-      }
+-- the sum of two numbers of a width
+pub wrapped_16 : (a b : ℤ) → SFits w16 a → SFits w16 b → int_wrapping_add w16 a b ≡ wrap 16 (a +ℤ b)
+unfolding wrap
+wrapped_16 a b f g =
+    let s = added a b in
+    let x = within w16 a f in
+    let y = within w16 b g in
+    wrapping_add_is w16 a b f g ∙ wrap_is w16 32768 refl turn_16 (a +ℤ b) (omega (arith, s, x, y)) (omega (arith, s, x, y))
 
-  sum_fits : SFits v (a +ℤ b)
-  sum_fits = sfits v (a +ℤ b) (record { above = omega (arith, bounds); below = omega (arith, bounds) })
-
-  raised_fits : SFits v (a +ℤ b +ℤ pos (h + h + h))
-  raised_fits = sfits v raised (record { above = omega (arith, bounds); below = omega (arith, bounds) })
-
-  quot_fits : SFits v (quot_z (a +ℤ b +ℤ pos (h + h + h)) (pos (h + h)))
-  quot_fits =
-      rw (quot_natural raised (h + h) bounds.natural)
-      (sfits v (pos (plus raised / (h + h))) (record { above = omega (arith, bounds, div-le_self (plus raised) (h + h)); below = omega arith }))
-
-  wrapped_rem : plus raised % (h + h) ≡ modℤ (h + h) (a +ℤ b +ℤ pos h)
-  wrapped_rem =
-      let s = added (a +ℤ b) (pos h) in
-      sym
-      (lifted (h + h) (a +ℤ b +ℤ pos h) 1 (omega arith) (omega (arith, s, bounds))
-      ∙ ap (λ (n : ℕ). n % (h + h)) (omega (arith, s, bounds)))
-
-  rem_fits : SFits v (rem_z (a +ℤ b +ℤ pos (h + h + h)) (pos (h + h)))
-  rem_fits =
-      rw (rem_natural raised (h + h) bounds.natural, wrapped_rem)
-      (sfits v (pos (modℤ (h + h) (a +ℤ b +ℤ pos h))) (record { above = omega (arith, remainder (h + h) (a +ℤ b +ℤ pos h) (omega arith)); below = omega arith }))
-
-  -- the result, which has the narrow width
-  lowered : rem_z (a +ℤ b +ℤ pos (h + h + h)) (pos (h + h)) -ℤ pos h ≡ wrap_by h (a +ℤ b)
-  lowered =
-      let n = modℤ (h + h) (a +ℤ b +ℤ pos h) in
-      rw (rem_natural raised (h + h) bounds.natural, wrapped_rem)
-      (equal (pos n -ℤ pos h) (sub_ℕ n h) (omega (arith, taken (pos n) (pos h), difference n h)))
-
-  -- the range of the result
-  in_range_lem : Within w (wrap_by h (a +ℤ b))
-  in_range_lem =
-      let z = a +ℤ b +ℤ pos h in
-      let r = remainder (h + h) z (omega arith) in
-      record { above = omega (arith, r.low, difference (modℤ (h + h) z) h); below = omega (arith, r.low, difference (modℤ (h + h) z) h) }
-
-  lowered_fits : SFits v (rem_z (a +ℤ b +ℤ pos (h + h + h)) (pos (h + h)) -ℤ pos h)
-  lowered_fits = rw lowered (sfits v (wrap_by h (a +ℤ b)) (record { above = omega (arith, in_range_lem); below = omega (arith, in_range_lem) }))
-
-  result_fits : SFits w (rem_z (a +ℤ b +ℤ pos (h + h + h)) (pos (h + h)) -ℤ pos h)
-  result_fits = rw lowered (sfits w (wrap_by h (a +ℤ b)) in_range_lem)
-
-  pub wraps : Wraps w v h a b
-  wraps =
-      record {
-        sum = sum_fits;
-        raised = raised_fits;
-        quotient = quot_fits;
-        rest = rem_fits;
-        lowered = lowered_fits;
-        narrow = result_fits;
-        result = lowered;
-      }
+pub wrapped_8 : (a b : ℤ) → SFits w8 a → SFits w8 b → int_wrapping_add w8 a b ≡ wrap 8 (a +ℤ b)
+unfolding wrap
+wrapped_8 a b f g =
+    let s = added a b in
+    let x = within w8 a f in
+    let y = within w8 b g in
+    wrapping_add_is w8 a b f g ∙ wrap_is w8 128 refl turn_8 (a +ℤ b) (omega (arith, s, x, y)) (omega (arith, s, x, y))
 
 -- ---- the opposite, as the code takes it
 

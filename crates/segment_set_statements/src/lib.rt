@@ -3,7 +3,7 @@
 #![tactic(auto)]
 
 use cover::Cover;
-use refusals::Verdict;
+use refusals::Refusal;
 
 // The set without its lent lists: whose segments it holds, the carry, each pixel row's absolute incoming cover with the
 // absolute covers of its segments, and how many lent slots are held, the first ones.
@@ -20,6 +20,6 @@ pub struct SegmentSet {
 // What an operation on a set answers, and the set after it.
 #[derive(Clone, Copy)]
 pub struct Edited {
-    pub verdict: Verdict,
+    pub verdict: Result<(), Refusal>,
     pub set: SegmentSet,
 }

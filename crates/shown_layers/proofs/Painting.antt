@@ -6,9 +6,8 @@ use Rattle.layer_table.specs.Lookup.{lookup}
 use Rattle.styling.specs.declared.Layer.{Layer}
 use Rattle.queue_statements.specs.Queue.{Carry, queue_of}
 use Rattle.tile_layers.specs.Listing.{layers_in}
-use Rattle.painter.specs.Clip.{clip_in, clip_after}
+use Rattle.painter.specs.Clip.{clip_after}
 use Rattle.painter.specs.Painting.{mark_in}
-use Rattle.painter.specs.declared.Clip as painter
 use Rattle.listed_painting.specs.InnerWalk.{WalkHolds, WalkStarts, PassesOver, CanPaint, PaintsNext, id_in}
 use Rattle.listed_painting.specs.declared.PaintWalk.{PaintWalk}
 use Rattle.listed_painting.specs.declared.PaintedNext.{PaintedNext}
@@ -55,7 +54,7 @@ module _ (table : List Layer) (n : ℕ) (ids : List ℕ) (covers : List ℤ) (pa
         holds = p.holds;
         one_more = p.one_more;
         sum_is =
-            ap (λ (c : painter.Clip). record { clip = clip_in c; shown = t.shown; octets = t.octets }) p.clip_kept
+            ap (λ (c : Option ℕ). record { clip = c; shown = t.shown; octets = t.octets }) p.clip_kept
             ∙ sym (ap (λ (x : Bool). cond x (tally_next true table (queue_of n ids covers) part (sum_in t) id) (sum_in t)) e);
         few = omega arith;
       }

@@ -1,8 +1,12 @@
 -- The shown layers of a list from a place on, and any walk over them, step by step. Assumes nothing.
-use Rattle.std.specs.Prelude.{◌≡◌, ◌∷◌, ◌+◌, ◌≤◌, ◌<◌}
+use Rattle.std.specs.Prelude.{◌≡◌, ◌∷◌, ◌+◌, ◌-◌, ◌≤◌, ◌<◌}
 use Rattle.laws.proofs.Prelude.{refl, ap, ap₂, sym, ◌∙◌, Bool, true, false, cond, List, [], ℕ, suc, add-one, arith, length}
-use Rattle.laws.proofs.Prelude.{drop, take, get_or, drop_of_length-le, drop-cons, get_or-take, length-take-le}
+use Rattle.laws.proofs.Prelude.{drop, take, get_or, drop_of_length-le, drop-cons, get_or-take, get_or-drop, length-take-le}
 use Rattle.row_lines.specs.Shown.{flagged, shown_in}
+
+-- one element of those between two places
+pub get_or_between : {A : Type 0} (xs : List A) (from to i : ℕ) (d : A) → from + i < to → get_or (take (to - from) (drop from xs)) i d ≡ get_or xs (from + i) d
+get_or_between xs from to i d h = let p : i < to - from = omega arith in rw (get_or-take, get_or-drop)
 
 module _ (ids : List ℕ) (shown : List Bool) (n i : ℕ) (li : length ids ≡ n) (ls : n ≤ length shown) where
   rest_by : i < n → shown_in i (take n shown) ids ≡ cond (get_or shown i false) (get_or ids i 0 ∷ shown_in (suc i) (take n shown) ids) (shown_in (suc i) (take n shown) ids)

@@ -1,7 +1,7 @@
 -- The walk over a tile's shown layers: what is tallied, with what is left, gives what the whole list gives. Assumes nothing.
 use Rattle.std.specs.Prelude.{◌≡◌, ◌∷◌, ◌+◌, ◌*◌, ◌≤◌, ◌<◌}
 use Rattle.laws.proofs.Prelude.{refl, ap, sym, ◌∙◌, Bool, true, false, cond, List, [], ℕ, zero, suc, le_of_suc-le-suc}
-use Rattle.laws.proofs.Prelude.{add-zero, arith, length, take, get_or, length-map}
+use Rattle.laws.proofs.Prelude.{bool_byte, add-zero, arith, length, take, get_or, length-map}
 use Rattle.styling.specs.declared.Layer.{Layer}
 use Rattle.queue_statements.specs.Queue.{Carry, ids_in}
 use Rattle.tile_layers.specs.Listing.{Listed, no_listed, layers_in, incoming_of}
@@ -29,10 +29,10 @@ pub count_start : (shown : List Bool) (skipped n : ℕ) → Counting shown skipp
 count_start shown skipped n = record { few = omega arith; same = λ ids e. omega arith }
 
 module _ {shown : List Bool} {skipped n r i : ℕ} (v : Counting shown skipped n r i) (ls : n ≤ length shown) where
-  pub count_next : {s : ℕ} → i < n → s ≡ cond (get_or shown i false) (r + 1) r → Counting shown skipped n s (i + 1)
+  pub count_next : {s : ℕ} → i < n → s ≡ r + bool_byte (get_or shown i false) → Counting shown skipped n s (i + 1)
   count_next {s} p e = by (get_or shown i false) refl e
     where
-      by : (b : Bool) → get_or shown i false ≡ b → s ≡ cond b (r + 1) r → Counting shown skipped n s (i + 1)
+      by : (b : Bool) → get_or shown i false ≡ b → s ≡ r + bool_byte b → Counting shown skipped n s (i + 1)
       by true eb es =
           record {
             few = omega (arith, es, v.few);

@@ -1,10 +1,10 @@
 -- What the walk over a tile's shown layers asks and gives.
 use Rattle.std.specs.Prelude.{◌∷◌, ◌+◌}
-use Rattle.laws.specs.Prelude.{Bool, true, false, List, [], Option, none, ℕ, ones}
+use Rattle.laws.specs.Prelude.{Bool, true, false, List, [], Option, None, ℕ, ones}
 use Rattle.styling.specs.declared.Layer.{Layer}
 use Rattle.queue_statements.specs.Queue.{Carry, ids_in}
 use Rattle.tile_layers.specs.Listing.{layers_in, incoming_of}
-use Rattle.painter.specs.Clip.{clip_in, clip_after}
+use Rattle.painter.specs.Clip.{clip_after}
 use Rattle.painter.specs.Painting.{mark_in}
 use Rattle.row_statements.specs.Painting.{layer_in}
 use Rattle.shown_layers.specs.declared.Tally.{Tally}
@@ -18,10 +18,10 @@ pub record Sum : Type 0 where
   pub octets : ℕ
 
 abbrev pub sum_in : Tally → Sum
-sum_in t = record { clip = clip_in t.walk.clip; shown = t.shown; octets = t.octets }
+sum_in t = record { clip = t.walk.clip; shown = t.shown; octets = t.octets }
 
 abbrev pub at_start : Sum
-at_start = record { clip = none; shown = 0; octets = 0 }
+at_start = record { clip = None; shown = 0; octets = 0 }
 
 -- once a shown layer is met: it counts, and where the tile is painted its mark and the clip after it count too
 abbrev pub tally_by : Bool → ℕ → Option ℕ → Sum → Sum

@@ -1,7 +1,7 @@
 // The shown layers of a tile, counted and, where the tile is painted, painted one after the other.
 #![tactic(auto)]
 
-ghost use Rattle.std.specs.Prelude.{◌≡◌, true, cond, ◌+◌, ◌≤◌, length, take};
+ghost use Rattle.std.specs.Prelude.{◌≡◌, true, ◌+◌, ◌≤◌, length, take};
 ghost use Rattle.std.specs.Int.Count.{ones};
 ghost use Rattle.layer_table.specs.Table.{table_of};
 ghost use Rattle.queue_statements.specs.Queue.{queue_of};
@@ -98,31 +98,12 @@ fn paint_shown(
         shown: 0,
         octets: 0,
     };
-    let mut i = skipped;
-    while i < listed {
+    for unmasked in &list_unmasked[skipped..listed] {
         tally = tally_entry(
-            list_unmasked[i],
-            ids,
-            covers,
-            n,
-            part,
-            layers,
-            colors,
-            count,
-            tally,
-            &mut plane,
+            *unmasked, ids, covers, n, part, layers, colors, count, tally, &mut plane,
         );
-        i += 1;
     }
     tally
-}
-
-// One more where a layer is not masked off.
-fn counted(shown: u32, is_shown: bool) -> u32
-    requires { shown ≤ 256 }
-    ensures { result ≡ cond is_shown (shown + 1) shown }
-{
-    if is_shown { shown + 1 } else { shown }
 }
 
 // How many of the listed layers from `skipped` on are not masked off.
@@ -131,10 +112,8 @@ pub fn count_shown(list_unmasked: &[bool], skipped: usize, listed: usize) -> u32
     ensures { CountsShown (take listed list_unmasked.now) skipped listed result }
 {
     let mut shown: u32 = 0;
-    let mut i = skipped;
-    while i < listed {
-        shown = counted(shown, list_unmasked[i]);
-        i += 1;
+    for i in skipped..listed {
+        shown += u32::from(list_unmasked[i]);
     }
     shown
 }

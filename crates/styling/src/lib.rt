@@ -7,7 +7,7 @@ pub mod codes;
 ghost use Rattle.std.specs.Prelude.{◌≡◌};
 ghost use Rattle.styling.specs.Color.{same_color};
 ghost use Rattle.styling.specs.Codes.{mode_code};
-ghost use Rattle.styling.specs.Style.{color_in, fill_color, has_alpha_one, is_clipped_of, solid_color, is_opaque};
+ghost use Rattle.styling.specs.Style.{fill_color, has_alpha_one, is_clipped_of, solid_color, is_opaque};
 
 // Four binary32 numbers.
 #[derive(Clone, Copy)]
@@ -80,13 +80,6 @@ pub struct Layer {
     pub is_unchanged: bool,
 }
 
-// The one colour of a layer, where it has one.
-#[derive(Clone, Copy)]
-pub enum Paint {
-    Color(Color),
-    Absent,
-}
-
 impl Color {
     // Field by field. Joined by & there is no branch.
     pub fn eq(self, other: Color) -> bool
@@ -123,13 +116,13 @@ impl BlendMode {
 }
 
 impl Fill {
-    pub fn solid_color(self) -> Paint
-        ensures { color_in result ≡ fill_color self }
+    pub fn solid_color(self) -> Option<Color>
+        ensures { result ≡ fill_color self }
     {
         match self {
-            Fill::Solid(color) => Paint::Color(color),
-            Fill::Gradient => Paint::Absent,
-            Fill::Texture => Paint::Absent,
+            Fill::Solid(color) => Some(color),
+            Fill::Gradient => None,
+            Fill::Texture => None,
         }
     }
 
@@ -157,15 +150,15 @@ impl Func {
     }
 
     // The colour of a draw with a solid fill.
-    pub fn solid_color(self) -> Paint
-        ensures { color_in result ≡ solid_color self }
+    pub fn solid_color(self) -> Option<Color>
+        ensures { result ≡ solid_color self }
     {
         match self {
             Func::Draw(style) => {
                 let fill = style.fill;
                 fill.solid_color()
             }
-            Func::Clip(_) => Paint::Absent,
+            Func::Clip(_) => None,
         }
     }
 

@@ -1,10 +1,10 @@
 -- A batch before its first tile: what 1 to 5 leave lets the tiles be worked, and where none is worked, or the first is refused, everything is as it was.
 -- Assumes nothing.
-use Rattle.std.specs.Prelude.{◌≡◌, ◌&&◌, ◌||◌, ◌-◌, ◌/◌}
+use Rattle.refusals.specs.declared.Refusal.{Refusal}
+use Rattle.std.specs.Prelude.{◌≡◌, ◌&&◌, ◌||◌, ◌-◌, ◌/◌, Result}
 use Rattle.laws.proofs.Prelude.{refl, ap, sym, subst, ◌∙◌, Bool, true, false, not, cond, ℕ, suc}
 use Rattle.laws.proofs.Prelude.{min, arith, not-false, ltb, ℤ, pos, length}
 use Rattle.refusals.specs.Refusal.{Judgement, pass, refuse, unless, and_then, judgement_in}
-use Rattle.refusals.specs.declared.Verdict.{Verdict}
 use Rattle.refusals.proofs.Judging.{passed, or_left, or_right}
 use Rattle.pixel_segment.specs.Field.{cpu}
 use Rattle.segment_rows.specs.Rows.{Words, is_row}
@@ -50,7 +50,7 @@ module _ (state : RowState) (tile : ℤ) (tiles : ℕ) (c : BatchRow) (m : Batch
   abbrev pub judged : Judgement
   judged = judged_by (is_batch_short c.table m.queue m.other) (state_in state) tile c.row c.table m.queue.ids
 
-  abbrev pub standing : Verdict → Standing
+  abbrev pub standing : Result Unit Refusal → Standing
   standing v = record { state = state; worked = 0; used = 0; first = true; verdict = v }
 
   -- ---- a first tile that one of them refuses
@@ -86,7 +86,7 @@ module _ (state : RowState) (tile : ℤ) (tiles : ℕ) (c : BatchRow) (m : Batch
   ended_first true eg (refuse n) ev h = refused_first (sym ev) (goes pass 0 0 state.next state.to tiles room (sym eg))
   ended_first false eg (refuse n) ev h = absurd (let z : ◌≡◌ {A = ℕ} 0 1 = cc in omega arith)
 
-  pub batch_ended : {go : Bool} (v : Verdict) {r : Batch} → go ≡ goes_on (starting state) tiles room → judgement_in v ≡ cond go judged pass → goes_on (standing v) tiles room ≡ false → Ends (standing v) tiles r → GivesBatch (batch_of called m) r m
+  pub batch_ended : {go : Bool} (v : Result Unit Refusal) {r : Batch} → go ≡ goes_on (starting state) tiles room → judgement_in v ≡ cond go judged pass → goes_on (standing v) tiles room ≡ false → Ends (standing v) tiles r → GivesBatch (batch_of called m) r m
   batch_ended {go} v {r} eg ev h e =
       subst (λ (g : BatchGiven). GivesBatch g r m) (sym (ended_first go eg (judgement_in v) ev h))
       (record { state = ap state_in e.state; worked = e.worked; used = e.used; first = e.first; answer = e.answer; lent_is = refl })
@@ -98,7 +98,7 @@ module _ (state : RowState) (tile : ℤ) (tiles : ℕ) (c : BatchRow) (m : Batch
   judged_passes false pass ev eg h = absurd (let z : ◌≡◌ {A = Bool} true false = sym h ∙ sym eg in let y : ◌≡◌ {A = ℕ} 0 1 = cc in omega arith)
   judged_passes go (refuse n) ev eg h = absurd (let z : ◌≡◌ {A = ℕ} 0 1 = cc in omega arith)
 
-  pub passes : {go : Bool} (v : Verdict) → go ≡ goes_on (starting state) tiles room → judgement_in v ≡ cond go judged pass → goes_on (standing v) tiles room ≡ true → judged ≡ pass
+  pub passes : {go : Bool} (v : Result Unit Refusal) → go ≡ goes_on (starting state) tiles room → judgement_in v ≡ cond go judged pass → goes_on (standing v) tiles room ≡ true → judged ≡ pass
   passes {go} v eg ev h = judged_passes go (judgement_in v) ev eg h
 
   module _ (v : judged ≡ pass) where

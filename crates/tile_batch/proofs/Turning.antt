@@ -1,12 +1,11 @@
 -- A tile of a batch: what stands after 1 to 5 lets its work pass without judging the row, the table and the carries again, none of its paintings is
 -- refused, and the same stands after it. Assumes nothing.
-use Rattle.std.specs.Prelude.{◌≡◌, ◌||◌, ◌∷◌, ◌+◌, ◌*◌, ◌≤◌, ◌<◌}
-use Rattle.laws.proofs.Prelude.{refl, ap, ap₂, sym, subst, ◌∙◌, Bool, true, false, cond, not, List, [], none, ℕ, suc}
+use Rattle.std.specs.Prelude.{◌≡◌, ◌||◌, ◌∷◌, ◌+◌, ◌*◌, ◌≤◌, ◌<◌, Ok, Err}
+use Rattle.laws.proofs.Prelude.{refl, ap, ap₂, sym, subst, ◌∙◌, Bool, true, false, cond, not, List, [], None, ℕ, suc}
 use Rattle.laws.proofs.Prelude.{min, arith, le-ltb, lt-leb, eq-eqb, leb-false, leb, Float, ℤ, pos, length, take, sets, length-sets, refused}
 use Rattle.laws.proofs.Prelude.{plus}
 use Rattle.refusals.specs.Refusal.{Judgement, pass, refuse, unless, and_then, number_of}
 use Rattle.refusals.specs.declared.Refusal.{Refusal}
-use Rattle.refusals.specs.declared.Verdict.TheVariants as verdict
 use Rattle.refusals.proofs.Judging.{passed, both_passed, or_left}
 use Rattle.pixel_segment.specs.Field.{cpu}
 use Rattle.segment_rows.specs.Rows.{is_row}
@@ -30,7 +29,6 @@ use Rattle.row_statements.specs.TileWork.{WorkLent, WorkGiven, TileAnswer, work_
 use Rattle.row_statements.specs.InnerWork.{worked_by}
 use Rattle.row_statements.specs.declared.TileDone.{TileDone}
 use Rattle.row_statements.specs.declared.TileWorked.{TileWorked}
-use Rattle.row_statements.specs.declared.WorkAnswer.TheVariants as worked
 use Rattle.row_statements.specs.InnerHolding.{HoldsQueue}
 use Rattle.row_statements.proofs.Holding.{holds_written}
 use Rattle.row_statements.proofs.Works.{Listable, list_passed, args_passed, judged}
@@ -220,19 +218,19 @@ module _ (c : BatchRow) (s : BatchAt) (stands : BatchStands c s) where
         (handed_ascends (layers_of c.table) 0 _ (list_ascends _ _ up own_workable.judged.walks.ordered))
 
     module _ (room : PlaneRoom s.used (min 256 c.table.count) s.lent.planes s.lent.painted) where
-      pub painted_here : PaintsAre c s stands inside (length (says_for (call_at c s)).handed) none s.used 0 s.lent.planes s.lent.painted (cond (is_paint (says_for (call_at c s)).outcome.decision) shown_here [])
+      pub painted_here : PaintsAre c s stands inside (length (says_for (call_at c s)).handed) None s.used 0 s.lent.planes s.lent.painted (cond (is_paint (says_for (call_at c s)).outcome.decision) shown_here [])
       painted_here =
           let p = is_paint (says_for (call_at c s)).outcome.decision in
           let h = chosen_few p shown_here in
-          paints_are c s stands inside (length (says_for (call_at c s)).handed) (cond p shown_here []) none s.used 0 s.lent.planes s.lent.painted
+          paints_are c s stands inside (length (says_for (call_at c s)).handed) (cond p shown_here []) None s.used 0 s.lent.planes s.lent.painted
           (omega (arith, few, h, room.planes_long))
           (chosen_pass p (layers_of c.table) carries_here part_here shown_here all_pass)
 
       -- the planes that the definition tells, before layers are mixed
-      planes_told : paints_past c s (tile_answer (says_for (call_at c s))) done_with ≡ paints_from c s.tile s.lent.queue (planes_on c s stands inside (length (says_for (call_at c s)).handed) none s.used s.lent.planes s.lent.painted) (cond (is_paint (says_for (call_at c s)).outcome.decision) shown_here [])
+      planes_told : paints_past c s (tile_answer (says_for (call_at c s))) done_with ≡ paints_from c s.tile s.lent.queue (planes_on c s stands inside (length (says_for (call_at c s)).handed) None s.used s.lent.planes s.lent.painted) (cond (is_paint (says_for (call_at c s)).outcome.decision) shown_here [])
       unfolding work_out
       planes_told =
-          ap (λ (ids : List ℕ). paints_from c s.tile s.lent.queue (planes_on c s stands inside (length (says_for (call_at c s)).handed) none s.used s.lent.planes s.lent.painted) (cond (is_paint (says_for (call_at c s)).outcome.decision) ids []))
+          ap (λ (ids : List ℕ). paints_from c s.tile s.lent.queue (planes_on c s stands inside (length (says_for (call_at c s)).handed) None s.used s.lent.planes s.lent.painted) (cond (is_paint (says_for (call_at c s)).outcome.decision) ids []))
           shown_told
 
       past : BatchAt
@@ -280,7 +278,7 @@ module _ (c : BatchRow) (s : BatchAt) (stands : BatchStands c s) where
 
       -- ---- what the code leaves of an accepted tile
 
-      module _ (b : Standing) (m : BatchLent) (is : s ≡ batch_in b m) (list : ListColumns) (list_long : is_list_short list ≡ false) {d : TileDone} {w : TileWorked} {back : WorkLent} (g : GivesWork (worked_by (call_at c s) (work_lent s.lent.other list)) w back) (e : w.answer ≡ worked.Done d) where
+      module _ (b : Standing) (m : BatchLent) (is : s ≡ batch_in b m) (list : ListColumns) (list_long : is_list_short list ≡ false) {d : TileDone} {w : TileWorked} {back : WorkLent} (g : GivesWork (worked_by (call_at c s) (work_lent s.lent.other list)) w back) (e : w.answer ≡ Ok d) where
         ready : driver.Workable (call_at c s) (work_lent s.lent.other list)
         ready = workable own_passed list list_long
 
@@ -304,18 +302,18 @@ module _ (c : BatchRow) (s : BatchAt) (stands : BatchStands c s) where
             walk_from (is_paint (decision_in d.decision)) (layers_of c.table) carries_here part_here (record { at = record { state = state_in w.state; used = s.used; planes = s.lent.planes; painted = s.lent.painted }; shown = 0 })
             (shown_in d.skipped.0 (take d.listed back.list.unmasked) (ids_of carries_here part_here))
 
-        walked_is : walked ≡ walk_from (is_paint (says_for (call_at c s)).outcome.decision) (layers_of c.table) carries_here part_here (record { at = planes_on c s stands inside (length (says_for (call_at c s)).handed) none s.used s.lent.planes s.lent.painted; shown = 0 }) shown_here
+        walked_is : walked ≡ walk_from (is_paint (says_for (call_at c s)).outcome.decision) (layers_of c.table) carries_here part_here (record { at = planes_on c s stands inside (length (says_for (call_at c s)).handed) None s.used s.lent.planes s.lent.painted; shown = 0 }) shown_here
         walked_is = λ i. walk_from (is_paint (told.done i).decision) (layers_of c.table) carries_here part_here (record { at = record { state = state_is i; used = s.used; planes = s.lent.planes; painted = s.lent.painted }; shown = 0 }) (shown_is i)
 
         planes_are : walked.at ≡ paints_past c s (tile_answer (says_for (call_at c s))) done_with
         planes_are =
             ap (λ (x : WalkAt). x.at) walked_is
-            ∙ walk_paints c s stands inside (length (says_for (call_at c s)).handed) (is_paint (says_for (call_at c s)).outcome.decision) shown_here none s.used s.lent.planes s.lent.painted painted_here
+            ∙ walk_paints c s stands inside (length (says_for (call_at c s)).handed) (is_paint (says_for (call_at c s)).outcome.decision) shown_here None s.used s.lent.planes s.lent.painted painted_here
             ∙ sym planes_told
 
         count_is : walked.shown ≡ length (shown_by (tile_answer (says_for (call_at c s))) done_with.lent)
         count_is =
-            let h = walk_shown (is_paint (says_for (call_at c s)).outcome.decision) (layers_of c.table) carries_here part_here shown_here (record { at = planes_on c s stands inside (length (says_for (call_at c s)).handed) none s.used s.lent.planes s.lent.painted; shown = 0 }) in
+            let h = walk_shown (is_paint (says_for (call_at c s)).outcome.decision) (layers_of c.table) carries_here part_here shown_here (record { at = planes_on c s stands inside (length (says_for (call_at c s)).handed) None s.used s.lent.planes s.lent.painted; shown = 0 }) in
             ap (λ (x : WalkAt). x.shown) walked_is ∙ (omega (arith, h)) ∙ ap (λ (ids : List ℕ). length ids) (sym shown_told)
 
         -- the list that the code holds tells the same layers
@@ -362,21 +360,21 @@ module _ (c : BatchRow) (s : BatchAt) (stands : BatchStands c s) where
 -- ---- a tile that is refused leaves everything as it was
 
 pub turn_left : (c : BatchRow) (s : BatchAt) (b r : Standing) (m : BatchLent) (k : Refusal) → s ≡ batch_in b m → turn_of c s ≡ record { at = s; verdict = refuse (number_of k) }
-    → r ≡ record { state = b.state; worked = b.worked; used = b.used; first = b.first; verdict = verdict.Refuse k } → GivesTurn b.first (turn_of c s) r m
+    → r ≡ record { state = b.state; worked = b.worked; used = b.used; first = b.first; verdict = Err k } → GivesTurn b.first (turn_of c s) r m
 turn_left c s b r m k is e er =
-    let g : GivesTurn b.first (record { at = batch_in b m; verdict = refuse (number_of k) }) (record { state = b.state; worked = b.worked; used = b.used; first = b.first; verdict = verdict.Refuse k }) m =
+    let g : GivesTurn b.first (record { at = batch_in b m; verdict = refuse (number_of k) }) (record { state = b.state; worked = b.worked; used = b.used; first = b.first; verdict = Err k }) m =
     record { state = refl; worked = refl; used = refl; first_is = refl; verdict = refl; lent_is = sym (ap (λ (x : Bool). sided x m) (alike_same b.first)) } in
-    subst (λ (x : Standing). GivesTurn b.first (turn_of c s) x m) (sym er) (subst (λ (x : TurnGiven). GivesTurn b.first x (record { state = b.state; worked = b.worked; used = b.used; first = b.first; verdict = verdict.Refuse k }) m) (sym (e ∙ ap (λ (x : BatchAt). record { at = x; verdict = refuse (number_of k) }) is)) g)
+    subst (λ (x : Standing). GivesTurn b.first (turn_of c s) x m) (sym er) (subst (λ (x : TurnGiven). GivesTurn b.first x (record { state = b.state; worked = b.worked; used = b.used; first = b.first; verdict = Err k }) m) (sym (e ∙ ap (λ (x : BatchAt). record { at = x; verdict = refuse (number_of k) }) is)) g)
 
 module _ (c : BatchRow) (b : Standing) (m : BatchLent) (stands : BatchStands c (batch_in b m)) (own : own_judged c (batch_in b m) stands ≡ pass) (list : ListColumns) (list_long : is_list_short list ≡ false) {w : TileWorked} {back : WorkLent} (g : GivesWork (worked_by (call_at c (batch_in b m)) (work_lent m.other list)) w back) where
   -- an accepted work's verdict passes
-  pub both_pass : {d : TileDone} → w.answer ≡ worked.Done d → and_then (own_judged c (batch_in b m) stands) (layers_verdict (call_at c (batch_in b m))) ≡ pass
+  pub both_pass : {d : TileDone} → w.answer ≡ Ok d → and_then (own_judged c (batch_in b m) stands) (layers_verdict (call_at c (batch_in b m))) ≡ pass
   both_pass e =
       let t = accepted (call_at c (batch_in b m)) (work_lent m.other list) (workable c (batch_in b m) stands own list list_long) e g in
       ap (λ (j : Judgement). and_then j (layers_verdict (call_at c (batch_in b m)))) own ∙ t.passes
 
   -- a refused one leaves its queue
-  refused_by : {k : Refusal} → w.answer ≡ worked.Refused k → (layers_verdict (call_at c (batch_in b m)) ≡ refuse (number_of k)) × (back.queue ≡ m.other)
+  refused_by : {k : Refusal} → w.answer ≡ Err k → (layers_verdict (call_at c (batch_in b m)) ≡ refuse (number_of k)) × (back.queue ≡ m.other)
   unfolding work_out
   refused_by {k} e = by (layers_verdict (call_at c (batch_in b m))) refl (sym (ap work_answer e) ∙ g.answer) g.lent_is
     where
@@ -384,8 +382,8 @@ module _ (c : BatchRow) (b : Standing) (m : BatchLent) (stands : BatchStands c (
       by (refuse n) ej ea el = (ap refuse (sym cc), ap (λ (x : WorkLent). x.queue) el)
       by pass ej ea el = absurd (let z : ◌≡◌ {A = ℕ} 0 1 = cc in omega arith)
 
-  pub turn_told_refused : {k : Refusal} {r : Standing} → w.answer ≡ worked.Refused k
-      → r ≡ record { state = b.state; worked = b.worked; used = b.used; first = b.first; verdict = verdict.Refuse k }
+  pub turn_told_refused : {k : Refusal} {r : Standing} → w.answer ≡ Err k
+      → r ≡ record { state = b.state; worked = b.worked; used = b.used; first = b.first; verdict = Err k }
       → GivesTurn b.first (turn_of c (batch_in b m)) r (batch_lent m.queue back.queue m.kept m.told m.bottoms m.planes m.painted)
   turn_told_refused {k} {r} e er =
       let h = refused_by e in

@@ -15,8 +15,7 @@ ghost use Rattle.batch_steps.specs.InnerStanding.{starting};
 ghost use Rattle.tile_batch.specs.InnerTurns.{is_batch_short, batch_in, Startable};
 
 use batch_statements::{Batch, Room};
-use layer_workbench::PreviousClear;
-use refusals::Verdict;
+use refusals::Refusal;
 use row_statements::RowState;
 use row_working::judging;
 use segment_rows::parts;
@@ -54,7 +53,7 @@ fn judge_first(
     a_covers: &[i8],
     b_ids: &[u32],
     b_covers: &[i8],
-) -> Verdict
+) -> Result<(), Refusal>
     ensures { judgement_in result ≡ cond goes
         (judged_by (is_batch_short (lent_table layers.now colors.now count)
         (columns a_ids.now a_covers.now)
@@ -67,7 +66,7 @@ fn judge_first(
         let short = is_short(layers, colors, count, a_ids, a_covers, b_ids, b_covers);
         judging::judge_row(short, state, tile, row, layers, colors, count, a_ids)
     } else {
-        Verdict::Pass
+        Ok(())
     }
 }
 
@@ -83,7 +82,7 @@ fn work_many(
     count: usize,
     keeps: bool,
     clear: Color,
-    previous: PreviousClear,
+    previous: Option<Color>,
     a_ids: &mut [u32],
     a_covers: &mut [i8],
     b_ids: &mut [u32],
@@ -116,7 +115,7 @@ fn work_many(
     let mut list_flags = [false; 512];
     let mut list_unmasked = [false; 256];
     let mut sums = [0i8; 4096];
-    let mut at = batch_steps::started(state, Verdict::Pass);
+    let mut at = batch_steps::started(state, Ok(()));
     let mut start = parts::left_of_tile(row, state.next as i16).len();
     while batch_steps::goes_on(at, tiles, room) {
         let stood = at.state;
@@ -165,7 +164,7 @@ pub fn work_tiles(
     count: usize,
     keeps: bool,
     clear: Color,
-    previous: PreviousClear,
+    previous: Option<Color>,
     a_ids: &mut [u32],
     a_covers: &mut [i8],
     b_ids: &mut [u32],
@@ -190,7 +189,7 @@ pub fn work_tiles(
         kept.new told.new bottoms.new planes.new painted.new) }
 {
     let room = batch_steps::room_in(count, keeps, kept, told, bottoms, planes, painted);
-    let begun = batch_steps::started(state, Verdict::Pass);
+    let begun = batch_steps::started(state, Ok(()));
     let goes = batch_steps::goes_on(begun, tiles, room);
     let verdict = judge_first(
         goes, state, tile, row, layers, colors, count, a_ids, a_covers, b_ids, b_covers,

@@ -1,9 +1,8 @@
 // One tile of a batch: judged by what the tile itself can be refused for, worked, noted, and its shown layers painted.
 ghost use Rattle.std.specs.Prelude.{◌≡◌, ◌≤◌, length};
-ghost use Rattle.std.proofs.Math.Option.{none};
+ghost use Rattle.std.specs.Prelude.{None};
 ghost use Rattle.layer_table.specs.Table.{table_of};
 ghost use Rattle.queue_statements.specs.Queue.{queue_of};
-ghost use Rattle.painter.specs.Clip.{clip_in};
 ghost use Rattle.listed_painting.specs.InnerWalk.{Painter};
 ghost use Rattle.shown_layers.specs.InnerTally.{Walkable};
 ghost use Rattle.row_statements.specs.Lent.{columns, list_columns, lent_table};
@@ -15,11 +14,9 @@ ghost use Rattle.tile_batch.specs.InnerTurns.{batch_in, walk_past, mix_past, Not
 ghost use Rattle.tile_batch.specs.InnerTurns.{Turnable, GivesPartTurn, GivesPartStanding};
 
 use batch_steps::Standing;
-use cached_tile::kept::Kept;
-use layer_workbench::PreviousClear;
 use refusals::Refusal;
 use row_driver::tile::is_paint;
-use row_statements::{TileDone, TileWorked, WorkAnswer};
+use row_statements::{TileDone, TileWorked};
 use styling::Color;
 
 // Paints the shown layers of a tile that is accepted, and notes the tile.
@@ -48,7 +45,7 @@ fn note_tile(
         list_unmasked.now done.skipped.0 done.listed
         × (done.listed ≤ length list_ids.now)
         × NoteRoom keeps at.worked kept.old told.old bottoms.old
-        × PlaneRoom at.used done.listed planes.old painted.old × (clip_in worked.state.clip ≡ none) }
+        × PlaneRoom at.used done.listed planes.old painted.old × (worked.state.clip ≡ None) }
     ensures { let walked = walk_past at worked done (table_of layers.now colors.now count)
         (queue_of n ids.now covers.now) part.now
         list_unmasked.now planes.old painted.old in
@@ -104,7 +101,7 @@ fn work_here(
     count: usize,
     keeps: bool,
     clear: Color,
-    previous: PreviousClear,
+    previous: Option<Color>,
     ids: &[u32],
     covers: &[i8],
     next_ids: &mut [u32],
@@ -162,8 +159,8 @@ fn work_here(
     );
     let answer = worked.answer;
     match answer {
-        WorkAnswer::Refused(refusal) => batch_steps::refused(at, refusal),
-        WorkAnswer::Done(done) => note_tile(
+        Err(refusal) => batch_steps::refused(at, refusal),
+        Ok(done) => note_tile(
             at,
             worked,
             done,
@@ -195,7 +192,7 @@ pub fn turn(
     count: usize,
     keeps: bool,
     clear: Color,
-    previous: PreviousClear,
+    previous: Option<Color>,
     a_ids: &mut [u32],
     a_covers: &mut [i8],
     b_ids: &mut [u32],

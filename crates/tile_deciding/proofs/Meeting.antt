@@ -24,9 +24,6 @@ module _ (words : List ℕ) (floats : List Float) (count : ℕ) (ids : List ℕ)
     pub met : (j : ℕ) → j < i → known (get_or ids j 0) ≡ true
     pub apart : (q : ℕ) → q < p → i < n → id_at words q ≡ get_or ids i 0 → ⊥
 
-  pub meet_start : Meeting 0 0
-  meet_start = record { within = omega arith; past = omega arith; met = λ j h. absurd (omega arith); apart = λ q h. absurd (omega arith) }
-
 -- ids that follow each other
 above : (ids : List ℕ) (n : ℕ) → strictly_ascends (take n ids) ≡ true → n ≤ length ids → (i : ℕ) → i + 1 < n → get_or ids i 0 < get_or ids (i + 1) 0
 above ids n ascends long i h =

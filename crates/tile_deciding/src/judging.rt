@@ -1,5 +1,5 @@
 // The judge of a deciding: refusals 1 and 4 to 8, by the lent list, the table and the cached tile.
-ghost use Rattle.std.specs.Prelude.{◌≡◌, true, false, cond, ◌&&◌, ◌+◌, ◌≤◌, min, eqb, ltb, length, get_or, take};
+ghost use Rattle.std.specs.Prelude.{◌≡◌, true, false, cond, ◌&&◌, ◌+◌, ◌≤◌, eqb, ltb, length, get_or, take};
 ghost use Rattle.refusals.specs.Refusal.{judgement_in};
 ghost use Rattle.styling.specs.Ascending.{strictly_ascends};
 ghost use Rattle.layer_table.specs.Table.{Table, table_of};
@@ -7,28 +7,19 @@ ghost use Rattle.row_statements.specs.Lent.{lent_table};
 ghost use Rattle.listing_statements.specs.Deciding.{are_in_table, lines_for};
 
 use cached_tile::kept::Kept;
-use refusals::{Refusal, Verdict};
-
-fn lesser(a: usize, b: usize) -> usize
-    ensures { result ≡ min a b }
-{
-    if a < b { a } else { b }
-}
+use refusals::Refusal;
 
 // Whether the first `n` ids, as many of them as there are, strictly ascend. `low` is the least id that may follow. No
 // early exit: a list is in order more often than not.
 fn do_ascend(ids: &[u32], n: usize) -> bool
     ensures { result ≡ strictly_ascends (take n ids.now) }
 {
-    let there = lesser(n, ids.len());
     let mut ok = true;
     let mut low: u64 = 0;
-    let mut i: usize = 0;
-    while i < there {
-        let id = ids[i] as u64;
-        ok = ok & (low <= id);
+    for id in &ids[..n.min(ids.len())] {
+        let id = u64::from(*id);
+        ok &= low <= id;
         low = id + 1;
-        i += 1;
     }
     ok
 }
@@ -54,10 +45,8 @@ fn are_known(ids: &[u32], n: usize, layers: &[u32], colors: &[f32], count: usize
         (take n ids.now) }
 {
     let mut i: usize = 0;
-    let mut p: usize = 0;
-    while p < count {
+    for p in 0..count {
         i = past_met(ids, n, i, layer_table::id_at(layers, p));
-        p += 1;
     }
     i == n
 }
@@ -71,28 +60,28 @@ pub fn judge_deciding(
     colors: &[f32],
     count: usize,
     kept: Kept,
-) -> Verdict
+) -> Result<(), Refusal>
     requires { short ≡ false → 256 ≤ length ids.now }
     ensures { judgement_in result ≡ lines_for short ids.now n
         (lent_table layers.now colors.now count) kept }
 {
     if short {
-        return Verdict::Refuse(Refusal::Room);
+        return Err(Refusal::Room);
     }
     if !layer_table::is_table(layers, colors, count) {
-        return Verdict::Refuse(Refusal::Table);
+        return Err(Refusal::Table);
     }
     if !do_ascend(ids, n) {
-        return Verdict::Refuse(Refusal::Queue);
+        return Err(Refusal::Queue);
     }
     if kept.is_tag_out_of_range() {
-        return Verdict::Refuse(Refusal::Tag);
+        return Err(Refusal::Tag);
     }
     if 256 < n {
-        return Verdict::Refuse(Refusal::Layers);
+        return Err(Refusal::Layers);
     }
     if !are_known(ids, n, layers, colors, count) {
-        return Verdict::Refuse(Refusal::Missing);
+        return Err(Refusal::Missing);
     }
-    Verdict::Pass
+    Ok(())
 }

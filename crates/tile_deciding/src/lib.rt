@@ -11,9 +11,9 @@ ghost use Rattle.listing_statements.specs.Deciding.{decide_call, deciding_of, De
 ghost use Rattle.listing_statements.specs.InnerDeciding.{refused_deciding, done_deciding};
 
 use cached_tile::kept::Kept;
-use layer_workbench::{DecidedTile, PreviousClear};
-use listing_statements::{DecideAnswer, TileDecided};
-use refusals::{Refusal, Verdict};
+use layer_workbench::DecidedTile;
+use listing_statements::TileDecided;
+use refusals::Refusal;
 use styling::Color;
 
 fn refuse(kept: Kept, refusal: Refusal) -> TileDecided
@@ -21,7 +21,7 @@ fn refuse(kept: Kept, refusal: Refusal) -> TileDecided
 {
     TileDecided {
         kept: kept,
-        answer: DecideAnswer::Refused(refusal),
+        answer: Err(refusal),
     }
 }
 
@@ -33,7 +33,7 @@ fn done(decided: DecidedTile) -> TileDecided
     let skipped = decided.skipped;
     TileDecided {
         kept: kept,
-        answer: DecideAnswer::Decided(decision, skipped),
+        answer: Ok((decision, skipped)),
     }
 }
 
@@ -48,7 +48,7 @@ pub fn decide_tile(
     count: usize,
     kept: Kept,
     clear: Color,
-    previous: PreviousClear,
+    previous: Option<Color>,
     unmasked: &mut [bool],
 ) -> TileDecided
     ensures { DecidesTile
@@ -63,8 +63,8 @@ pub fn decide_tile(
     let short = row_working::judging::is_list_short(list_ids, list_covers, list_flags, unmasked)
         | layer_table::is_short(layers, colors, count);
     match judging::judge_deciding(short, list_ids, n, layers, colors, count, kept) {
-        Verdict::Refuse(refusal) => refuse(kept, refusal),
-        Verdict::Pass => done(layer_workbench::decide_tile(
+        Err(refusal) => refuse(kept, refusal),
+        Ok(()) => done(layer_workbench::decide_tile(
             list_ids,
             list_covers,
             list_flags,

@@ -10,7 +10,6 @@ ghost use Rattle.tile_layers.specs.InnerWalk.{Walks, GroupEnds, Stepped, Moved};
 use cover::{Cover, entry};
 use pixel_segment::PixelSegment;
 use segment_rows::search;
-use segment_rows::search::Found;
 
 // The next layer: its id, whether it has a carry, and the places after it in the queue and in the part.
 #[derive(Clone, Copy)]
@@ -36,8 +35,8 @@ fn group_end(part: &[u64], j: usize) -> usize
     let id = layer_at(part, j);
     let rest = &part[j..];
     match search::search_last_by_layer_id(rest, id) {
-        Found::At(d) => j + d + 1,
-        Found::Absent(_) => j + 1,
+        Ok(d) => j + d + 1,
+        Err(_) => j + 1,
     }
 }
 

@@ -14,9 +14,8 @@ ghost use Rattle.listing_statements.specs.Listing.{tile_list, list_call, list_le
 ghost use Rattle.listing_statements.specs.InnerListing.{refused_listing, done_listing, listed_with};
 ghost use Rattle.listing_statements.specs.InnerListing.{ListingRooms, ListingJudged};
 
-use listing_statements::{ListAnswer, TileListed};
-use painter::Clip;
-use refusals::{Refusal, Verdict};
+use listing_statements::TileListed;
+use refusals::Refusal;
 use row_statements::RowState;
 use row_working::judging;
 use segment_rows::parts;
@@ -26,7 +25,7 @@ fn refuse(state: RowState, refusal: Refusal) -> TileListed
 {
     TileListed {
         state: state,
-        answer: ListAnswer::Refused(refusal),
+        answer: Err(refusal),
     }
 }
 
@@ -42,11 +41,11 @@ fn done(state: RowState, n: usize, left: usize) -> TileListed
         next: state.next + 1,
         left: left,
         taken: state.left,
-        clip: Clip::Absent,
+        clip: None,
     };
     TileListed {
         state: next,
-        answer: ListAnswer::Listed(n),
+        answer: Ok(n),
     }
 }
 
@@ -144,8 +143,8 @@ fn list_judged(
     );
     let verdict = judged.verdict;
     match verdict {
-        Verdict::Refuse(refusal) => refuse(state, refusal),
-        Verdict::Pass => done(
+        Err(refusal) => refuse(state, refusal),
+        Ok(()) => done(
             state,
             judged.listed,
             write_tile(
@@ -200,8 +199,8 @@ pub fn list_tile(
         | layer_table::is_short(layers, colors, count)
         | judging::are_entries_short(list_ids, list_covers, list_flags);
     match judging::judge_row(short, state, tile, row, layers, colors, count, ids) {
-        Verdict::Refuse(refusal) => refuse(state, refusal),
-        Verdict::Pass => list_judged(
+        Err(refusal) => refuse(state, refusal),
+        Ok(()) => list_judged(
             state,
             tile,
             row,

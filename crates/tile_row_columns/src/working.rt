@@ -7,7 +7,6 @@ ghost use Rattle.row_statements.specs.TileWork.{work_call, work_lent, work_of, G
 ghost use Rattle.tile_row_columns.specs.Lent.{lent_columns};
 
 use cached_tile::kept::Kept;
-use layer_workbench::PreviousClear;
 use queue_records::Columns;
 use row_statements::{RowState, TileWorked};
 use styling::Color;
@@ -21,7 +20,7 @@ pub fn work_columns(
     count: usize,
     kept: Kept,
     clear: Color,
-    previous: PreviousClear,
+    previous: Option<Color>,
     columns: Columns,
     next_ids: &mut [u32],
     next_covers: &mut [i8],

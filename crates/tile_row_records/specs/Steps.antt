@@ -1,6 +1,6 @@
 -- A caller that keeps its carries as records: what is asked of them so that its calls are steps of a
 -- run (row_statements/specs/Run), and the claim that they are, after every opening and any calls.
-use Rattle.std.specs.Prelude.{◌≡◌, ◌≤◌}
+use Rattle.std.specs.Prelude.{◌≡◌, ◌≤◌, Ok}
 use Rattle.laws.specs.Prelude.{List, ℕ, Float, length, take}
 use Rattle.segment_rows.specs.Rows.{Words}
 use Rattle.queue_records.specs.Records.{carries_of}
@@ -13,7 +13,6 @@ use Rattle.row_statements.specs.Painting.{paint_of, PaintsLayer}
 use Rattle.row_statements.specs.Due.{OpenRow, WorkChoice, PaintChoice}
 use Rattle.row_statements.specs.Run.{open_row, Held, held_first, work_on, paint_onto, held_after, Event, Step, Run}
 use Rattle.row_statements.specs.declared.RowState.{RowState}
-use Rattle.row_statements.specs.declared.Opened.TheVariants as opened
 use Rattle.row_statements.specs.declared.TileWorked.{TileWorked}
 use Rattle.row_statements.specs.declared.Painted.{Painted}
 use Rattle.tile_row_columns.specs.Lent.{columns_for}
@@ -36,7 +35,7 @@ abbrev pub AfterCalls : (OpenRow → Held → Type 0) → Type 0
 AfterCalls P =
     (c : OpenCall) (lent back : Columns) (s : RowState) (es : List Event) (h : Held) →
     Words c.row →
-    OpensRow (open_of c lent) (opened.Row s) back →
+    OpensRow (open_of c lent) (Ok s) back →
     Run (open_row c) (held_first s back) es h →
     P (open_row c) h
 

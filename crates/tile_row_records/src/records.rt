@@ -8,7 +8,6 @@ ghost use Rattle.row_statements.specs.Painting.{paint_call, paint_of, PaintsLaye
 
 use crate::working;
 use cached_tile::kept::Kept;
-use layer_workbench::PreviousClear;
 use row_statements::{Painted, RowState, TileWorked};
 use styling::Color;
 
@@ -22,7 +21,7 @@ pub fn work_records(
     count: usize,
     kept: Kept,
     clear: Color,
-    previous: PreviousClear,
+    previous: Option<Color>,
     ids: [u32; 256],
     covers: [i8; 4096],
     next_ids: &mut [u32],

@@ -7,7 +7,6 @@ ghost use Rattle.row_statements.specs.TileWork.{work_call, work_lent, work_of, G
 ghost use Rattle.tile_row_columns.specs.Lent.{columns_for};
 
 use cached_tile::kept::Kept;
-use layer_workbench::PreviousClear;
 use queue_records::CarryRecord;
 use row_statements::{RowState, TileWorked};
 use styling::Color;
@@ -23,7 +22,7 @@ pub fn work_tile(
     count: usize,
     kept: Kept,
     clear: Color,
-    previous: PreviousClear,
+    previous: Option<Color>,
     queue: &[CarryRecord],
     next_ids: &mut [u32],
     next_covers: &mut [i8],
@@ -76,7 +75,7 @@ pub fn work_array(
     count: usize,
     kept: Kept,
     clear: Color,
-    previous: PreviousClear,
+    previous: Option<Color>,
     queue: [CarryRecord; 256],
     next_ids: &mut [u32],
     next_covers: &mut [i8],

@@ -7,7 +7,6 @@ ghost use Rattle.pass_statements.specs.Entry.{entry_at};
 ghost use Rattle.pass_statements.specs.Item.{item_for, item_of, EntryColumns};
 
 use cover::{Cover, entry};
-use layer_table::Found;
 use pass_statements::Index;
 use pass_statements::item::Item;
 use styling::{Func, Layer};
@@ -52,11 +51,11 @@ pub fn item_at(
     let id = ids[at];
     let changed = flags[256 + at];
     match layer_table::find_from(layers, count, at, id) {
-        Found::At(p) => {
+        Some(p) => {
             let layer = layer_table::layer_at(layers, colors, p);
             item_for(layer, id, entry::read_cover(covers, at), flags[at], changed)
         }
-        Found::Absent => Item {
+        None => Item {
             id: id,
             full: false,
             func: Func::Clip(0),

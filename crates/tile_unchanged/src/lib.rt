@@ -11,7 +11,6 @@ ghost use Rattle.pass_statements.specs.Item.{items_of, EntryColumns};
 ghost use Rattle.pass_statements.specs.Unchanged.{all_unchanged, is_kept, were_removed};
 
 use pass_statements::Index;
-use pass_statements::unchanged::PreviousCount;
 
 // Whether every listed layer is unchanged.
 pub fn are_unchanged(
@@ -28,11 +27,9 @@ pub fn are_unchanged(
         (entries_of n ids.now covers.now flags.now)) }
 {
     let mut ok = true;
-    let mut i = 0;
-    while i < n {
+    for i in 0..n {
         let x = item::item_at(ids, covers, flags, n, layers, colors, count, Index(i));
-        ok = ok & x.unchanged;
-        i += 1;
+        ok &= x.unchanged;
     }
     ok
 }
@@ -40,7 +37,7 @@ pub fn are_unchanged(
 // Whether the tile is kept as it is.
 pub fn is_kept(
     clear_unchanged: bool,
-    previous: PreviousCount,
+    previous: Option<u32>,
     ids: &[u32],
     covers: &[i8],
     flags: &[bool],
@@ -55,8 +52,8 @@ pub fn is_kept(
         (entries_of n ids.now covers.now flags.now)) }
 {
     match previous {
-        PreviousCount::Absent => false,
-        PreviousCount::Kept(k) => {
+        None => false,
+        Some(k) => {
             let kept = k as usize;
             if clear_unchanged & (kept == n) {
                 are_unchanged(ids, covers, flags, n, layers, colors, count)
@@ -68,11 +65,11 @@ pub fn is_kept(
 }
 
 // Whether a layer may have been removed since the last accepted work on the tile.
-pub fn were_removed(previous: PreviousCount, n: usize) -> bool
+pub fn were_removed(previous: Option<u32>, n: usize) -> bool
     ensures { result ≡ were_removed previous n }
 {
     match previous {
-        PreviousCount::Absent => true,
-        PreviousCount::Kept(k) => n < k as usize,
+        None => true,
+        Some(k) => n < k as usize,
     }
 }

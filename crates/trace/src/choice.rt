@@ -2,7 +2,6 @@
 // names. A choice holds for every file, wherever it stands. Any other word names a file.
 use crate::tiles::chosen;
 use crate::tiles::chosen::Chosen;
-use decimal::Signed;
 
 // Which number a word asks for: that of a tile, of a layer, or none.
 pub const NO_NUMBER: u32 = 0;
@@ -41,61 +40,32 @@ pub fn everything() -> Choice {
     }
 }
 
-fn is_word(word: &[u8], name: &[u8]) -> bool {
-    let mut ok = word.len() == name.len();
-    let mut i: usize = 0;
-    while i < word.len() {
-        ok = ok & (word[i] == crate::text::byte_at(name, i));
-        i += 1;
-    }
-    ok
-}
-
 pub fn is_then(word: &[u8]) -> bool {
-    is_word(word, b"then")
+    word == b"then".as_slice()
 }
 
 fn number_asked(word: &[u8]) -> u32 {
-    if is_word(word, b"tile") {
-        TILE
-    } else if is_word(word, b"layer") {
-        LAYER
-    } else {
-        NO_NUMBER
-    }
-}
-
-// The part that a word names, of a painting or of what follows it.
-fn later_part(word: &[u8]) -> u32 {
-    if is_word(word, b"painted") {
-        chosen::PAINTED
-    } else if is_word(word, b"areas") {
-        chosen::AREAS
-    } else if is_word(word, b"planes") {
-        chosen::PLANES
-    } else if is_word(word, b"handed") {
-        chosen::HANDED_ON
-    } else if is_word(word, b"line") {
-        chosen::LINE
-    } else {
-        0
+    match word {
+        b"tile" => TILE,
+        b"layer" => LAYER,
+        _ => NO_NUMBER,
     }
 }
 
 // The part that a word names, or 0.
 fn part_of(word: &[u8]) -> u32 {
-    if is_word(word, b"segments") {
-        chosen::SEGMENTS
-    } else if is_word(word, b"taken") {
-        chosen::TAKEN_IN
-    } else if is_word(word, b"list") {
-        chosen::LIST
-    } else if is_word(word, b"decision") {
-        chosen::DECISION
-    } else if is_word(word, b"cached") {
-        chosen::CACHED
-    } else {
-        later_part(word)
+    match word {
+        b"segments" => chosen::SEGMENTS,
+        b"taken" => chosen::TAKEN_IN,
+        b"list" => chosen::LIST,
+        b"decision" => chosen::DECISION,
+        b"cached" => chosen::CACHED,
+        b"painted" => chosen::PAINTED,
+        b"areas" => chosen::AREAS,
+        b"planes" => chosen::PLANES,
+        b"handed" => chosen::HANDED_ON,
+        b"line" => chosen::LINE,
+        _ => 0,
     }
 }
 
@@ -103,7 +73,7 @@ fn part_of(word: &[u8]) -> u32 {
 fn take_name(choice: Choice, word: &[u8]) -> Choice {
     let mut after = choice;
     after.asked = number_asked(word);
-    after.help = choice.help | is_word(word, b"--help");
+    after.help = choice.help | (word == b"--help".as_slice());
     after.named = choice.named | ((after.asked == NO_NUMBER) & !is_then(word));
     after
 }
@@ -132,14 +102,14 @@ fn take_wrong(choice: Choice) -> Choice {
 // A whole number, not below 0, that is the whole word.
 fn take_asked(choice: Choice, word: &[u8]) -> Choice {
     match decimal::read_signed(word, 0) {
-        Signed::Integer(number, next) => {
+        Some((number, next)) => {
             if (next == word.len()) & (0 <= number) {
                 take_number(choice, row_state::natural(number))
             } else {
                 take_wrong(choice)
             }
         }
-        Signed::Malformed => take_wrong(choice),
+        None => take_wrong(choice),
     }
 }
 

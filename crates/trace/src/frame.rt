@@ -5,9 +5,9 @@ use crate::choice;
 use crate::choice::Choice;
 use crate::tiles::lent::{Queue, Table};
 use crate::tiles::painting;
-use job_statements::Reading;
+use job_statements::JobError;
 use job_text_statements::Head;
-use row_statements::{Opened, RowState};
+use row_statements::RowState;
 use std::io;
 
 // What a frame leaves for the next: its layer table and its row, and the cached tiles, eight bytes each.
@@ -37,14 +37,12 @@ pub fn none_before() -> Frame {
 
 // The first n words of a row.
 fn front(row: &[u64], n: usize) -> &[u64] {
-    if n < row.len() { &row[..n] } else { row }
+    &row[..n.min(row.len())]
 }
 
 // How many tiles of from..to a row of so many tiles has.
 fn due_tiles(first: u32, to: u32, tiles: i32) -> u32 {
-    let all = row_state::natural(tiles);
-    let end = if to < all { to } else { all };
-    if end < first { 0 } else { end - first }
+    to.min(row_state::natural(tiles)).saturating_sub(first)
 }
 
 // Works the tiles of an open row, up to the first that is refused.
@@ -61,9 +59,7 @@ fn trace_tiles(
 ) -> io::Result<()> {
     let mut queue = opened;
     let mut at = state;
-    let mut left = n;
-    while 0 < left {
-        left -= 1;
+    for _ in 0..n {
         let step = crate::tiles::trace_tile(
             rt,
             choice::chosen_of(choice, at.next),
@@ -109,8 +105,8 @@ fn trace_row(
         &mut ids,
         &mut covers,
     ) {
-        Opened::Refused(refusal) => painting::print_refusal(rt, refusals::number_of(refusal)),
-        Opened::Row(state) => {
+        Err(refusal) => painting::print_refusal(rt, refusals::number_of(refusal)),
+        Ok(state) => {
             let n = due_tiles(state.from, state.to, head.tiles);
             let queue = Queue {
                 ids: ids,
@@ -188,13 +184,19 @@ pub fn trace_frame(
     let mut colors = [0.0f32; 256];
     let mut row = [0u64; 2048];
     match job_front::read_front(text, n, &mut layers, &mut colors, &mut row) {
-        Reading::Accepted(head, count, segments) => {
-            trace_job(
-                rt, choice, head, layers, colors, count, row, segments, before,
-            )
-        }
-        Reading::NoRoom => Ok(before),
-        Reading::Malformed => {
+        Ok(numbers) => trace_job(
+            rt,
+            choice,
+            numbers.head,
+            layers,
+            colors,
+            numbers.layers,
+            row,
+            numbers.segments,
+            before,
+        ),
+        Err(JobError::NoRoom) => Ok(before),
+        Err(JobError::Malformed) => {
             painting::print_refusal(rt, 10)?;
             Ok(before)
         }

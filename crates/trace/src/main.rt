@@ -111,10 +111,8 @@ fn run_arguments(
         asked: choice::NO_NUMBER,
         frame: frame::none_before(),
     };
-    let mut i: usize = 1;
-    while i < count {
+    for i in 1..count {
         step = run_argument(rt, errors, choice, i, step)?;
-        i += 1;
     }
     Ok(())
 }
@@ -122,20 +120,15 @@ fn run_arguments(
 // An argument that is missing or too long counts as an empty word.
 fn choose_by(env: &impl Env, choice: Choice, i: usize) -> Choice {
     let mut word = [0u8; 4096];
-    let n = match env.arg(i, &mut word) {
-        Ok(n) => n,
-        Err(_) => 0,
-    };
+    let n = env.arg(i, &mut word).unwrap_or(0);
     choice::take(choice, &word[..n])
 }
 
 // What all arguments choose. The first is the program's own name.
 fn chosen_by(env: &impl Env, count: usize) -> Choice {
     let mut choice = choice::everything();
-    let mut i: usize = 1;
-    while i < count {
+    for i in 1..count {
         choice = choose_by(env, choice, i);
-        i += 1;
     }
     choice
 }

@@ -46,11 +46,7 @@ pub fn wide(cover: i8) -> i16 {
 // A word and spaces up to a column's end.
 pub fn print_left(rt: &impl Print, word: &[u8], width: usize) -> io::Result<()> {
     print(rt, word)?;
-    if word.len() < width {
-        print_spaces(rt, width - word.len())
-    } else {
-        Ok(())
-    }
+    print_spaces(rt, width.saturating_sub(word.len()))
 }
 
 pub fn print_answer(rt: &impl Print, yes: bool, width: usize) -> io::Result<()> {
@@ -62,17 +58,17 @@ pub fn print_answer(rt: &impl Print, yes: bool, width: usize) -> io::Result<()> 
 }
 
 pub fn id_at(ids: &[u32], i: usize) -> u32 {
-    if i < ids.len() { ids[i] } else { 0 }
+    ids.get(i).copied().unwrap_or(0)
 }
 
 pub fn cover_at(covers: &[i8], i: usize) -> i8 {
-    if i < covers.len() { covers[i] } else { 0 }
+    covers.get(i).copied().unwrap_or(0)
 }
 
 pub fn flag_at(flags: &[bool], i: usize) -> bool {
-    if i < flags.len() { flags[i] } else { false }
+    flags.get(i).copied().unwrap_or(false)
 }
 
 pub fn byte_at(bytes: &[u8], i: usize) -> u8 {
-    if i < bytes.len() { bytes[i] } else { 0 }
+    bytes.get(i).copied().unwrap_or(0)
 }

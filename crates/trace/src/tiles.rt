@@ -8,9 +8,8 @@ pub mod painting;
 use crate::text::{lists, queues, segments};
 use cached_tile::kept::Kept;
 use chosen::Chosen;
-use layer_workbench::PreviousClear;
 use lent::{LIST_FLAGS, List, Queue, Table};
-use row_statements::{RowState, TileDone, TileWorked, WorkAnswer};
+use row_statements::{RowState, TileDone, TileWorked};
 use segment_rows::parts;
 use std::io;
 use styling::Color;
@@ -35,12 +34,8 @@ fn clear_color() -> Color {
 }
 
 // That of the frame before, where there was one.
-fn previous_clear(later: bool) -> PreviousClear {
-    if later {
-        PreviousClear::Given(clear_color())
-    } else {
-        PreviousClear::Absent
-    }
+fn previous_clear(later: bool) -> Option<Color> {
+    if later { Some(clear_color()) } else { None }
 }
 
 // The list, a line for each layer.
@@ -57,8 +52,7 @@ fn print_list(
     let flags = list.flags;
     let unmasked = list.unmasked;
     lists::print_names(rt, listed)?;
-    let mut i: usize = 0;
-    while i < listed {
+    for i in 0..listed {
         let id = lent::id_in(&ids, i);
         lists::print_entry(
             rt,
@@ -70,7 +64,6 @@ fn print_list(
             lent::is_unmasked(&unmasked, i),
             i < skipped,
         )?;
-        i += 1;
     }
     Ok(())
 }
@@ -341,7 +334,7 @@ pub fn trace_tile(
     let kept_after = worked.kept;
     let answer = worked.answer;
     match answer {
-        WorkAnswer::Refused(refusal) => {
+        Err(refusal) => {
             print_refused(rt, chosen, state.next, refusals::number_of(refusal))?;
             Ok(Step {
                 state: after,
@@ -350,7 +343,7 @@ pub fn trace_tile(
                 worked: false,
             })
         }
-        WorkAnswer::Done(told) => tell_done(
+        Ok(told) => tell_done(
             rt, chosen, state.next, after, told, kept, kept_after, row, table, queue, list, next,
         ),
     }

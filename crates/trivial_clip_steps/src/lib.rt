@@ -6,15 +6,21 @@ ghost use Rattle.std.specs.Prelude.{◌≡◌};
 ghost use Rattle.pass_statements.specs.Clips.{opened_of, clipped_of, drawn_of, closed_of, is_clip, step_of};
 
 use pass_statements::Index;
-use pass_statements::clips::{ActiveClip, Closed, Current, Drawn, Step};
+use pass_statements::clips::{ActiveClip, Closed, Drawn, Step};
 use pass_statements::item::Item;
 use styling::Func;
 
-fn open_clip(func: Func, cur: Current, id: u32, full: bool, i: Index) -> Current
+fn open_clip(
+    func: Func,
+    cur: Option<ActiveClip>,
+    id: u32,
+    full: bool,
+    i: Index,
+) -> Option<ActiveClip>
     ensures { result ≡ opened_of func cur id full i.0 }
 {
     match func {
-        Func::Clip(span) => Current::Active(ActiveClip {
+        Func::Clip(span) => Some(ActiveClip {
             full: full,
             last: (id as u64) + (span as u64),
             at: i,
@@ -24,19 +30,19 @@ fn open_clip(func: Func, cur: Current, id: u32, full: bool, i: Index) -> Current
     }
 }
 
-fn draw_clipped(cur: Current, id: u32) -> Drawn
+fn draw_clipped(cur: Option<ActiveClip>, id: u32) -> Drawn
     ensures { result ≡ clipped_of cur id }
 {
     match cur {
-        Current::Nothing => Drawn {
-            cur: Current::Nothing,
+        None => Drawn {
+            cur: None,
             masked: true,
             unclipped: false,
         },
-        Current::Active(k) => {
+        Some(k) => {
             if k.last < (id as u64) {
                 return Drawn {
-                    cur: Current::Active(k),
+                    cur: Some(k),
                     masked: true,
                     unclipped: false,
                 };
@@ -44,7 +50,7 @@ fn draw_clipped(cur: Current, id: u32) -> Drawn
             let used = k.used | !k.full;
             let at = k.at;
             Drawn {
-                cur: Current::Active(ActiveClip {
+                cur: Some(ActiveClip {
                     full: k.full,
                     last: k.last,
                     at: at,
@@ -57,7 +63,7 @@ fn draw_clipped(cur: Current, id: u32) -> Drawn
     }
 }
 
-fn draw(clipped: bool, cur: Current, id: u32) -> Drawn
+fn draw(clipped: bool, cur: Option<ActiveClip>, id: u32) -> Drawn
     ensures { result ≡ drawn_of clipped cur id }
 {
     if clipped {
@@ -71,26 +77,26 @@ fn draw(clipped: bool, cur: Current, id: u32) -> Drawn
     }
 }
 
-fn close_clip(cur: Current, id: u32) -> Closed
+fn close_clip(cur: Option<ActiveClip>, id: u32) -> Closed
     ensures { result ≡ closed_of cur id }
 {
     match cur {
-        Current::Nothing => Closed {
-            cur: Current::Nothing,
+        None => Closed {
+            cur: None,
             unused: false,
             at: Index(0),
         },
-        Current::Active(k) => {
+        Some(k) => {
             if k.last < (id as u64) {
                 let at = k.at;
                 return Closed {
-                    cur: Current::Nothing,
+                    cur: None,
                     unused: !k.used,
                     at: at,
                 };
             }
             Closed {
-                cur: Current::Active(k),
+                cur: Some(k),
                 unused: false,
                 at: Index(0),
             }
@@ -108,7 +114,7 @@ pub fn is_clip(func: Func) -> bool
 }
 
 // One turn, at the listed layer x in place i.
-pub fn clip_step(x: Item, cur: Current, i: Index) -> Step
+pub fn clip_step(x: Item, cur: Option<ActiveClip>, i: Index) -> Step
     ensures { result ≡ step_of x cur i.0 }
 {
     let func = x.func;

@@ -1,7 +1,7 @@
 -- Two runs over rows that agree on a layer: what their calls say of the layer is the same. Assumes nothing.
 use Rattle.std.specs.Prelude.{◌≡◌, ◌+◌, ◌-◌}
 use Rattle.laws.proofs.Prelude.{refl, ap, ap₂, sym, ◌∙◌, List, map, ℕ, suc, arith, Float, length, take, take_at, given, over}
-use Rattle.refusals.specs.Refusal.{Judgement, pass, refuse}
+use Rattle.refusals.specs.Refusal.{Judgement, pass, refuse, given_or_refused}
 use Rattle.pixel_segment.specs.Field.{cpu}
 use Rattle.cover_statements.specs.Plane.{pixel_of}
 use Rattle.cover_statements.specs.WholeRow.{left_cover, part_of}
@@ -13,7 +13,7 @@ use Rattle.layer_workbench.specs.Work.{entry_of}
 use Rattle.row_statements.specs.Lent.{carries_in, entries_in}
 use Rattle.row_statements.specs.State.{State, state_in}
 use Rattle.row_statements.specs.TileWork.{WorkLent, TileAnswer, tile_answer, work_out, work_answer}
-use Rattle.row_statements.specs.Painting.{paint_out, paint_answer}
+use Rattle.row_statements.specs.Painting.{paint_out}
 use Rattle.row_statements.specs.Due.{OpenRow, Past, at_first, WorkChoice, PaintChoice, table_on, queue_on, layers_on, plane_on, state_on, says_on, paint_on, work_due_verdict, paint_due_verdict}
 use Rattle.row_statements.specs.Run.{open_row, Held, Event}
 use Rattle.row_statements.specs.Claim.{RightWork, RightPaint}
@@ -21,7 +21,7 @@ use Rattle.row_statements.specs.InnerHolding.{IsOpen, Holds}
 use Rattle.row_statements.specs.declared.TileWorked.{TileWorked}
 use Rattle.row_statements.specs.declared.Painted.{Painted}
 use Rattle.row_statements.proofs.Run.{accepted, is_open, held_first_lem}
-use Rattle.listing_statements.specs.Listing.{ListLent, entries_from, list_answer, listing_out}
+use Rattle.listing_statements.specs.Listing.{ListLent, entries_from, listing_out}
 use Rattle.listing_statements.specs.declared.TileListed.{TileListed}
 use Rattle.listing_runs.specs.Due.{ListChoice, list_due_verdict}
 use Rattle.listing_runs.specs.Run.{RowCall}
@@ -56,7 +56,7 @@ module _ (o : OpenRow) where
             carries = ap (λ (x : State). carries_in x.left back.queue) s ∙ right.queue_read e;
           }
 
-  list_read : {p : Past} {c : ListChoice} {r : TileListed} {back : ListLent} {n : ℕ} → RightListing o p c r back → list_answer r.answer ≡ given n
+  list_read : {p : Past} {c : ListChoice} {r : TileListed} {back : ListLent} {n : ℕ} → RightListing o p c r back → given_or_refused r.answer ≡ given n
       → IsRows p.tiles (record { entries = entries_from n back.list; carries = carries_in (state_in r.state).left back.queue })
   unfolding listing_out
   list_read {p} {c} {r} {back} {n} right a = by (list_due_verdict o p.tiles c) refl (sym a ∙ right.gives.answer) right.gives.state
@@ -79,7 +79,7 @@ module _ (o : OpenRow) where
   pub plane_long : (n id : ℕ) → length (plane_on o n id) ≡ 256
   plane_long n id = places_length 16 (pixel_of cpu (rule_in (table_on o) id) (left_cover cpu (suc (o.from + n)) id o.row) (part_of cpu (suc (o.from + n)) id o.row))
 
-  paint_read : (p : Past) (c : PaintChoice) {r : Painted} {back : List Float} {mark : ℕ} → RightPaint o p c r back → paint_answer r.answer ≡ given mark → take 256 back ≡ plane_on o (p.tiles - 1) c.layer
+  paint_read : (p : Past) (c : PaintChoice) {r : Painted} {back : List Float} {mark : ℕ} → RightPaint o p c r back → given_or_refused r.answer ≡ given mark → take 256 back ≡ plane_on o (p.tiles - 1) c.layer
   unfolding paint_out over
   paint_read p c {r} {back} {mark} right a = by (paint_due_verdict o p.tiles c) refl (sym a ∙ right.answer) right.plane
     where
@@ -102,7 +102,7 @@ module _ {o o' : OpenRow} (i : IsOpen o) (i' : IsOpen o') {id : ℕ} (agree : Ag
   module _ {es es' : List RowCall} (all : AllCallsRight o at_first es) (all' : AllCallsRight o' at_first es') where
     paint_same : {p p' : Past} {c c' : PaintChoice} {r r' : Painted} {back back' : List Float} {mark mark' : ℕ}
         → MadeCall o at_first es p (RowCall.row (Event.paint c r back)) → MadeCall o' at_first es' p' (RowCall.row (Event.paint c' r' back')) → p.tiles ≡ p'.tiles → c.layer ≡ id → c'.layer ≡ id
-        → paint_answer r.answer ≡ given mark → paint_answer r'.answer ≡ given mark' → take 256 back ≡ take 256 back'
+        → given_or_refused r.answer ≡ given mark → given_or_refused r'.answer ≡ given mark' → take 256 back ≡ take 256 back'
     paint_same {p} {p'} {c} {c'} {r} {r'} {back} {back'} m m' e l l' a a' =
         paint_read o p c (made_right all m) a
         ∙ ap (plane_on o (p.tiles - 1)) l ∙ (same_layer i i' agree (p.tiles - 1)).plane ∙ ap₂ (λ (n x : ℕ). plane_on o' (n - 1) x) e (sym l')

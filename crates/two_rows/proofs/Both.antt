@@ -1,6 +1,6 @@
 -- For every list of choices there are two runs whose calls are alike, over a row of mild covers and over its opposite: specs/Backwards' last claim.
 -- Assumes nothing.
-use Rattle.std.specs.Prelude.{◌≡◌, ◌∷◌}
+use Rattle.std.specs.Prelude.{◌≡◌, ◌∷◌, Ok}
 use Rattle.laws.proofs.Prelude.{refl, ap, sym, subst, ◌∙◌, Bool, true, false, List, [], ℕ}
 use Rattle.refusals.specs.Refusal.{Judgement, pass, refuse}
 use Rattle.pixel_segment.specs.Field.{cpu}
@@ -13,7 +13,6 @@ use Rattle.row_statements.specs.Due.{OpenRow, Past, at_first, state_on, work_due
 use Rattle.row_statements.specs.Run.{open_row, Step}
 use Rattle.row_statements.specs.Example.{work_at, paint_at, if_turned_down}
 use Rattle.row_statements.specs.InnerHolding.{IsOpen}
-use Rattle.row_statements.specs.declared.Opened.TheVariants as opened
 use Rattle.row_statements.proofs.Run.{accepted, is_open, held_first_lem}
 use Rattle.row_statements.proofs.Runs.{as_held, held_work, held_paint, work_goes, paint_goes, turned}
 use Rattle.listing_statements.specs.Listing.{listing_verdict}
@@ -150,7 +149,7 @@ runs_both c lent lent' back s cs w m room g =
     let mild = are_mild_lem cpu c.row m in
     let w' = words_opposite c.row w in
     let back' = (open_of (opposite_call c) lent').lent in
-    let g' : OpensRow (open_of (opposite_call c) lent') (opened.Row s) back' = record { answer = g.answer ∙ sym (open_turned c mild lent lent' room); lent_is = refl } in
+    let g' : OpensRow (open_of (opposite_call c) lent') (Ok s) back' = record { answer = g.answer ∙ sym (open_turned c mild lent lent' room); lent_is = refl } in
     let a = accepted c lent back s g in
     let a' = accepted (opposite_call c) lent' back' s g' in
     let r =

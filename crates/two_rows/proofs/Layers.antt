@@ -1,7 +1,7 @@
 -- What a queue and a list say of one layer: whether they have it, its cover, its segments. Assumes nothing.
 use Rattle.std.specs.Prelude.{◌≡◌, ◌&&◌, ◌||◌, ◌∷◌, ◌+◌}
 use Rattle.laws.proofs.Prelude.{subst, refl, ap, sym, ◌∙◌, Bool, true, false, cond, not, and-false, ⊎_elim, List, [], map}
-use Rattle.laws.proofs.Prelude.{some, none, ℕ, suc, arith, eq-eqb, ne_eqb, eqb-true, lt-ltb, eqb, ltb, any, filter, sumℕ, eq_or_ne}
+use Rattle.laws.proofs.Prelude.{Some, None, ℕ, suc, arith, eq-eqb, ne_eqb, eqb-true, lt-ltb, eqb, ltb, any, filter, sumℕ, eq_or_ne}
 use Rattle.pixel_segment.specs.Field.{cpu}
 use Rattle.styling.specs.Ascending.{strictly_ascends_from}
 use Rattle.styling.specs.declared.Layer.{Layer}
@@ -37,14 +37,14 @@ any_filter p (w ∷ ws) = by (p w) (any_filter p ws)
 
 -- ---- a queue
 
-pub carry_in_lem : (q : List Carry) (id : ℕ) → carry_in q id ≡ cond (has_carry q id) (some (record { id = id; cover = held_in q id })) none
+pub carry_in_lem : (q : List Carry) (id : ℕ) → carry_in q id ≡ cond (has_carry q id) (Some (record { id = id; cover = held_in q id })) None
 unfolding carry_in held_in
 carry_in_lem [] id = refl
 carry_in_lem (c ∷ q) id = by (eqb c.id id) refl (carry_in_lem q id)
   where
-    by : (t : Bool) → eqb c.id id ≡ t → carry_in q id ≡ cond (has_carry q id) (some (record { id = id; cover = held_in q id })) none
-        → cond t (some c) (carry_in q id) ≡ cond (t || has_carry q id) (some (record { id = id; cover = cond t c.cover (held_in q id) })) none
-    by true e r = ap (λ (i : ℕ). some (record { id = i; cover = c.cover })) (eqb-true c.id id e)
+    by : (t : Bool) → eqb c.id id ≡ t → carry_in q id ≡ cond (has_carry q id) (Some (record { id = id; cover = held_in q id })) None
+        → cond t (Some c) (carry_in q id) ≡ cond (t || has_carry q id) (Some (record { id = id; cover = cond t c.cover (held_in q id) })) None
+    by true e r = ap (λ (i : ℕ). Some (record { id = i; cover = c.cover })) (eqb-true c.id id e)
     by false e r = r
 
 -- ---- a list that ascends
@@ -58,7 +58,7 @@ unlisted_not (l ∷ ls) id h = by (eqb l.id id) (is_unlisted ls id) h (unlisted_
     by false u e r = r e
 
 pub entry_in_lem : (table : List Layer) (low : ℕ) (ls : List Listed) (id : ℕ) → strictly_ascends_from low (listed_ids ls) ≡ true
-    → entry_in (map (entry_of table) ls) id ≡ cond (is_listed ls id) (some (record { id = id; cover = held_in (incoming_of ls) id; segments = has_any (own_in ls id) })) none
+    → entry_in (map (entry_of table) ls) id ≡ cond (is_listed ls id) (Some (record { id = id; cover = held_in (incoming_of ls) id; segments = has_any (own_in ls id) })) None
 unfolding entry_in held_in own_in
 entry_in_lem table low [] id h = refl
 entry_in_lem table low (l ∷ ls) id h = ⊎_elim (here id) (λ (n : l.id ≡ id → ⊥). past id n (entry_in_lem table (suc l.id) ls id tail)) (eq_or_ne l.id id)
@@ -66,13 +66,13 @@ entry_in_lem table low (l ∷ ls) id h = ⊎_elim (here id) (λ (n : l.id ≡ id
     tail : strictly_ascends_from (suc l.id) (listed_ids ls) ≡ true
     tail = ascends_tail low l.id (listed_ids ls) h
 
-    first : entry_in (map (entry_of table) (l ∷ ls)) l.id ≡ cond (is_listed (l ∷ ls) l.id) (some (record { id = l.id; cover = held_in (incoming_of (l ∷ ls)) l.id; segments = has_any (own_in (l ∷ ls) l.id) })) none
+    first : entry_in (map (entry_of table) (l ∷ ls)) l.id ≡ cond (is_listed (l ∷ ls) l.id) (Some (record { id = l.id; cover = held_in (incoming_of (l ∷ ls)) l.id; segments = has_any (own_in (l ∷ ls) l.id) })) None
     first = rw (head_held l ls, head_own low l ls h, eq-eqb l.id l.id refl)
 
-    here : (i : ℕ) → l.id ≡ i → entry_in (map (entry_of table) (l ∷ ls)) i ≡ cond (is_listed (l ∷ ls) i) (some (record { id = i; cover = held_in (incoming_of (l ∷ ls)) i; segments = has_any (own_in (l ∷ ls) i) })) none
-    here i e = subst (λ (k : ℕ). entry_in (map (entry_of table) (l ∷ ls)) k ≡ cond (is_listed (l ∷ ls) k) (some (record { id = k; cover = held_in (incoming_of (l ∷ ls)) k; segments = has_any (own_in (l ∷ ls) k) })) none) e first
+    here : (i : ℕ) → l.id ≡ i → entry_in (map (entry_of table) (l ∷ ls)) i ≡ cond (is_listed (l ∷ ls) i) (Some (record { id = i; cover = held_in (incoming_of (l ∷ ls)) i; segments = has_any (own_in (l ∷ ls) i) })) None
+    here i e = subst (λ (k : ℕ). entry_in (map (entry_of table) (l ∷ ls)) k ≡ cond (is_listed (l ∷ ls) k) (Some (record { id = k; cover = held_in (incoming_of (l ∷ ls)) k; segments = has_any (own_in (l ∷ ls) k) })) None) e first
 
-    past : (i : ℕ) → (l.id ≡ i → ⊥) → entry_in (map (entry_of table) ls) i ≡ cond (is_listed ls i) (some (record { id = i; cover = held_in (incoming_of ls) i; segments = has_any (own_in ls i) })) none → entry_in (map (entry_of table) (l ∷ ls)) i ≡ cond (is_listed (l ∷ ls) i) (some (record { id = i; cover = held_in (incoming_of (l ∷ ls)) i; segments = has_any (own_in (l ∷ ls) i) })) none
+    past : (i : ℕ) → (l.id ≡ i → ⊥) → entry_in (map (entry_of table) ls) i ≡ cond (is_listed ls i) (Some (record { id = i; cover = held_in (incoming_of ls) i; segments = has_any (own_in ls i) })) None → entry_in (map (entry_of table) (l ∷ ls)) i ≡ cond (is_listed (l ∷ ls) i) (Some (record { id = i; cover = held_in (incoming_of (l ∷ ls)) i; segments = has_any (own_in (l ∷ ls) i) })) None
     past i n r = rw (ne_eqb l.id i n) r
 
 -- ---- the carries that a list hands on

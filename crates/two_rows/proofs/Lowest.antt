@@ -1,5 +1,5 @@
 -- The example of specs/Lowest, computed. Assumes nothing.
-use Rattle.std.specs.Prelude.{◌≡◌}
+use Rattle.std.specs.Prelude.{◌≡◌, None, Ok}
 use Rattle.laws.proofs.Prelude.{refl, ap, sym, ◌∙◌, true, false, false≢true, List, map, ℕ, arith, Float, nan, odd, nat_abs, get_or, given, over}
 use Rattle.pixel_segment.specs.Field.{cover_of, double_area_of, tile_of}
 use Rattle.pixel_segment.specs.Opposite.{opposite_of}
@@ -20,14 +20,12 @@ use Rattle.cover_statements.proofs.Floats.{same_float}
 use Rattle.queue_statements.specs.Queue.{Carry, queue_of, held_in, covers_in}
 use Rattle.queue_statements.specs.Opening.{add_to, add_all, open_queue, is_light_opening}
 use Rattle.queue_statements.specs.Opposite.{opposite_carry}
-use Rattle.painter.specs.declared.Clip.TheVariants.{Absent}
 use Rattle.row_statements.specs.Example.{room}
 use Rattle.row_statements.specs.Lent.{Columns, carries_in, queue_over}
 use Rattle.row_statements.specs.State.{state_in}
 use Rattle.row_statements.specs.Opening.{OpenCall, left_of, open_verdict, open_count, open_of, OpensRow}
 use Rattle.row_statements.specs.Due.{plane_on}
 use Rattle.row_statements.specs.Run.{open_row}
-use Rattle.row_statements.specs.declared.Opened.TheVariants as opened
 use Rattle.row_statements.specs.declared.RowState.{RowState}
 use Rattle.row_statements.proofs.Example.{small}
 use Rattle.two_rows.specs.Backwards.{opposite_call, BackOpening}
@@ -37,7 +35,7 @@ in_words : Words lowest_call.row
 in_words = record { small = λ i. small i lowest_call.row refl }
 
 first : RowState
-first = record { tile_y = 0; from = 0; to = 1; next = 0; left = 1; taken = 0; clip = Absent }
+first = record { tile_y = 0; from = 0; to = 1; next = 0; left = 1; taken = 0; clip = None }
 
 held : OpenCall → Columns
 held c = queue_over (open_queue (left_of c)) (room 256)
@@ -50,11 +48,11 @@ counted_back : open_count (open_verdict (opposite_call lowest_call) (room 256)) 
 unfolding open_verdict is_table_short is_valid is_table strictly_ascends_from ascends_from layer_at is_light_opening is_light add_to add_all cover_of left_part search_of halved tile_of opposite_of with_cover
 counted_back = refl
 
-opens : OpensRow (open_of lowest_call (room 256)) (opened.Row first) (held lowest_call)
+opens : OpensRow (open_of lowest_call (room 256)) (Ok first) (held lowest_call)
 unfolding first held open_of
 opens = rw counted (record { answer = refl; lent_is = refl })
 
-opens_back : OpensRow (open_of (opposite_call lowest_call) (room 256)) (opened.Row first) (held (opposite_call lowest_call))
+opens_back : OpensRow (open_of (opposite_call lowest_call) (room 256)) (Ok first) (held (opposite_call lowest_call))
 unfolding first held open_of
 opens_back = rw counted_back (record { answer = refl; lent_is = refl })
 

@@ -1,6 +1,6 @@
 -- Two rows that agree on a layer: its sums, its carries, its entries and its coverages are the same in each tile. Assumes nothing.
 use Rattle.std.specs.Prelude.{◌≡◌, ◌&&◌, ◌||◌, ◌∷◌, ◌+◌, ◌+ℤ◌, ◌*ℤ◌}
-use Rattle.laws.proofs.Prelude.{refl, ap, ap₂, sym, ◌∙◌, Bool, true, cond, not, List, [], map, some, none, ℕ, zero, suc}
+use Rattle.laws.proofs.Prelude.{refl, ap, ap₂, sym, ◌∙◌, Bool, true, cond, not, List, [], map, Some, None, ℕ, zero, suc}
 use Rattle.laws.proofs.Prelude.{arith, eqb, ltb, ℤ, pos, +ℤ_idl, tabulate, filter, sumℤ, count_by, sumℤ_same, sumℕ_same}
 use Rattle.pixel_segment.specs.Field.{cpu, tile_x_of, layer_id_of, cover_of, double_area_of}
 use Rattle.segment_rows.specs.Search as search
@@ -146,7 +146,7 @@ module _ {o : OpenRow} (is_open : IsOpen o) (id : ℕ) where
       ∙ handed_has (table_on o) 0 (layers_on o n) id (layers_ascend is_open.in_order (table_on o) o.from n)
       ∙ rw (listed_is n, cover_is n, own_is n)
 
-  entry_is : (n : ℕ) → entry_in (map (entry_of (table_on o)) (layers_on o n)) id ≡ cond (has_carry (queue_on o n) id || has_any (part n)) (some (record { id = id; cover = held_in (queue_on o n) id; segments = has_any (part n) })) none
+  entry_is : (n : ℕ) → entry_in (map (entry_of (table_on o)) (layers_on o n)) id ≡ cond (has_carry (queue_on o n) id || has_any (part n)) (Some (record { id = id; cover = held_in (queue_on o n) id; segments = has_any (part n) })) None
   entry_is n =
       entry_in_lem (table_on o) 0 (layers_on o n) id (layers_ascend is_open.in_order (table_on o) o.from n)
       ∙ rw (listed_is n, cover_is n, own_is n)
@@ -192,10 +192,10 @@ module _ {o o' : OpenRow} (is_open : IsOpen o) (is-open' : IsOpen o') {id : ℕ}
   pub same_layer : (n : ℕ) → SameLayer id o o' n
   same_layer n =
       record {
-        carry = carry_in_lem (queue_on o n) id ∙ ap₂ (λ (t : Bool) (c : List ℤ). cond t (some (record { id = id; cover = c })) none) (has_same n) (held_same n) ∙ sym (carry_in_lem (queue_on o' n) id);
+        carry = carry_in_lem (queue_on o n) id ∙ ap₂ (λ (t : Bool) (c : List ℤ). cond t (Some (record { id = id; cover = c })) None) (has_same n) (held_same n) ∙ sym (carry_in_lem (queue_on o' n) id);
         entry =
             entry_is is_open id n
-            ∙ (λ i. cond (has_same n i || parts_any n i) (some (record { id = id; cover = held_same n i; segments = parts_any n i })) none)
+            ∙ (λ i. cond (has_same n i || parts_any n i) (Some (record { id = id; cover = held_same n i; segments = parts_any n i })) None)
             ∙ sym (entry_is is-open' id n);
         plane = plane_same id o.row o'.row agree.segments (rule_in (table_on o) id) (suc (o.from + n)) ∙ ap₂ (λ (rule : FillRule) (t : ℕ). row_plane cpu 16 rule t id o'.row) agree.rule (tile_is n);
       }

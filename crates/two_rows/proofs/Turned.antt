@@ -21,7 +21,6 @@ use Rattle.pass_statements.specs.Opposite.{opposite_entry}
 use Rattle.pass_statements.specs.Rules.{needs_clip}
 use Rattle.pass_statements.specs.declared.item.Item.{Item}
 use Rattle.layer_workbench.specs.Work.{entry_of}
-use Rattle.layer_workbench.specs.declared.PreviousClear.{PreviousClear}
 use Rattle.row_carries.proofs.Opposite.{layers_own_mild, queue_opposite, layers_at_opposite, entries_at_opposite, items_at_opposite, outcome_at_opposite}
 use Rattle.painter.specs.Clip.{alive_at, clip_after}
 use Rattle.painter.specs.Painting.{mark_for}
@@ -53,7 +52,7 @@ module _ (o : OpenRow) (mild : are_mild cpu o.row ≡ true) where
   pub entries_turned : (n : ℕ) → map (entry_of (table_on o)) (layers_on (opposite_row o) n) ≡ map opposite_entry (map (entry_of (table_on o)) (layers_on o n))
   entries_turned n = entries_at_opposite (table_on o) o.row mild o.from n
 
-  pub outcome_turned : (n : ℕ) (k : kept.Kept) (clear : Color) (previous : PreviousClear) → outcome_on (opposite_row o) n k clear previous ≡ outcome_on o n k clear previous
+  pub outcome_turned : (n : ℕ) (k : kept.Kept) (clear : Color) (previous : Option Color) → outcome_on (opposite_row o) n k clear previous ≡ outcome_on o n k clear previous
   outcome_turned n k clear previous = outcome_at_opposite (table_on o) o.row mild o.from k clear previous n
 
   -- 7, 8 and 9

@@ -1,6 +1,7 @@
 -- W-214: two rows that agree on one layer's segments and its fill rule, and may differ in all else, say the same of that layer.
-use Rattle.std.specs.Prelude.{◌≡◌, ◌∷◌, ◌%◌, ◌^◌}
-use Rattle.laws.specs.Prelude.{Bool, cond, List, [], map, Option, some, none, ℕ, eqb, Float, ℤ, take, given, filter, count_by}
+use Rattle.std.specs.Prelude.{◌≡◌, ◌∷◌, ◌%◌, ◌^◌, Ok}
+use Rattle.laws.specs.Prelude.{Bool, cond, List, [], map, Option, Some, None, ℕ, eqb, Float, ℤ, take, given, filter, count_by}
+use Rattle.refusals.specs.Refusal.{given_or_refused}
 use Rattle.pixel_segment.specs.Field.{cpu, shift_of, layer_id_of}
 use Rattle.segment_rows.specs.Rows.{Words}
 use Rattle.queue_statements.specs.Queue.{Carry}
@@ -11,14 +12,12 @@ use Rattle.row_statements.specs.Lent.{Columns, carries_in, entries_in}
 use Rattle.row_statements.specs.State.{State, state_in}
 use Rattle.row_statements.specs.Opening.{OpenCall, open_of, OpensRow}
 use Rattle.row_statements.specs.TileWork.{WorkLent, TileAnswer, work_answer}
-use Rattle.row_statements.specs.Painting.{paint_answer}
 use Rattle.row_statements.specs.Due.{OpenRow, Past, at_first, WorkChoice, PaintChoice, table_on, queue_on, layers_on, plane_on}
 use Rattle.row_statements.specs.Run.{open_row, held_first, Event}
 use Rattle.row_statements.specs.declared.RowState.{RowState}
-use Rattle.row_statements.specs.declared.Opened.TheVariants as opened
 use Rattle.row_statements.specs.declared.TileWorked.{TileWorked}
 use Rattle.row_statements.specs.declared.Painted.{Painted}
-use Rattle.listing_statements.specs.Listing.{ListLent, entries_from, list_answer}
+use Rattle.listing_statements.specs.Listing.{ListLent, entries_from}
 use Rattle.listing_statements.specs.declared.TileListed.{TileListed}
 use Rattle.listing_runs.specs.Due.{ListChoice}
 use Rattle.listing_runs.specs.Run.{HeldAll, held_with, RowCall, RowCalls}
@@ -51,12 +50,12 @@ abbrev pub presence_of : Entry → Presence
 presence_of e = record { id = e.id; cover = e.cover; segments = e.segments }
 
 unfoldable pub entry_in : List Entry → ℕ → Option Presence
-entry_in [] id = none
-entry_in (e ∷ es) id = cond (eqb e.id id) (some (presence_of e)) (entry_in es id)
+entry_in [] id = None
+entry_in (e ∷ es) id = cond (eqb e.id id) (Some (presence_of e)) (entry_in es id)
 
 unfoldable pub carry_in : List Carry → ℕ → Option Carry
-carry_in [] id = none
-carry_in (c ∷ q) id = cond (eqb c.id id) (some c) (carry_in q id)
+carry_in [] id = None
+carry_in (c ∷ q) id = cond (eqb c.id id) (Some c) (carry_in q id)
 
 -- ---- tile from + n: the layer's carry before it, its entry in the list, its coverages
 pub record SameLayer (id : ℕ) (o o' : OpenRow) (n : ℕ) : Type 0 where
@@ -82,7 +81,7 @@ pub data ResultOf : RowCall → TileResult → Type 0 where
       ResultOf (RowCall.row (Event.work c r back))
       (record { entries = entries_in t.listed back.list; carries = carries_in (state_in r.state).left back.queue })
   list : {c : ListChoice} {r : TileListed} {back : ListLent} {n : ℕ} →
-      list_answer r.answer ≡ given n →
+      given_or_refused r.answer ≡ given n →
       ResultOf (RowCall.list c r back)
       (record { entries = entries_from n back.list; carries = carries_in (state_in r.state).left back.queue })
 
@@ -108,8 +107,8 @@ pub record Apart (id : ℕ) (o o' : OpenRow) (s s' : State) (opened opened' : Co
       p.tiles ≡ p'.tiles →
       c.layer ≡ id →
       c'.layer ≡ id →
-      paint_answer r.answer ≡ given mark →
-      paint_answer r'.answer ≡ given mark' →
+      given_or_refused r.answer ≡ given mark →
+      given_or_refused r'.answer ≡ given mark' →
       take 256 back ≡ take 256 back'
 
 -- the claim: whatever else differs
@@ -118,8 +117,8 @@ LayersApart =
     (id : ℕ) (c c' : OpenCall) (lent lent' back back' : Columns) (s s' : RowState) (es es' : List RowCall) (h h' : HeldAll) →
     Words c.row →
     Words c'.row →
-    OpensRow (open_of c lent) (opened.Row s) back →
-    OpensRow (open_of c' lent') (opened.Row s') back' →
+    OpensRow (open_of c lent) (Ok s) back →
+    OpensRow (open_of c' lent') (Ok s') back' →
     AgreeOn id (open_row c) (open_row c') →
     RowCalls (open_row c) (held_with (held_first s back) []) es h →
     RowCalls (open_row c') (held_with (held_first s' back') []) es' h' →

@@ -1,9 +1,10 @@
 -- W-210: outlines run backwards. A row whose covers lie in -31 to 31 and the row with every cover negated are worked by the same calls, refused ones
 -- included: listings, decidings, works and paintings. Then every call answers the same, and every carry is negated, exactly. Mildness is asked of the
 -- whole row, right of its last tile too. What the two runs' memory held before is free; what is lent has room for both or for neither.
-use Rattle.std.specs.Prelude.{◌≡◌, ◌∷◌}
+use Rattle.refusals.specs.declared.Refusal.{Refusal}
+use Rattle.std.specs.Prelude.{◌≡◌, ◌∷◌, Result, Ok}
 use Rattle.laws.specs.Prelude.{Bool, List, [], map, ℕ, Float, length, take, Answer, refused, given}
-use Rattle.refusals.specs.Refusal.{refuse}
+use Rattle.refusals.specs.Refusal.{refuse, given_or_refused}
 use Rattle.pixel_segment.specs.Field.{cpu}
 use Rattle.pixel_segment.specs.Opposite.{opposite_of, Mild}
 use Rattle.segment_rows.specs.Rows.{Words}
@@ -15,15 +16,13 @@ use Rattle.row_statements.specs.Lent.{Columns, ListColumns, carries_in, entries_
 use Rattle.row_statements.specs.State.{State, state_in}
 use Rattle.row_statements.specs.Opening.{OpenCall, open_of, opened_answer, OpensRow}
 use Rattle.row_statements.specs.TileWork.{WorkCall, WorkLent, TileAnswer, work_answer, work_verdict}
-use Rattle.row_statements.specs.Painting.{PaintCall, paint_answer, paint_verdict}
+use Rattle.row_statements.specs.Painting.{PaintCall, paint_verdict}
 use Rattle.row_statements.specs.Due.{OpenRow, at_first, WorkChoice, PaintChoice, layers_on}
 use Rattle.row_statements.specs.Run.{open_row, held_first, Event}
-use Rattle.row_statements.specs.declared.Opened.{Opened}
-use Rattle.row_statements.specs.declared.Opened.TheVariants as opened
 use Rattle.row_statements.specs.declared.RowState.{RowState}
 use Rattle.row_statements.specs.declared.TileWorked.{TileWorked}
 use Rattle.row_statements.specs.declared.Painted.{Painted}
-use Rattle.listing_statements.specs.Listing.{ListCall, ListLent, TileList, entries_from, list_answer, listing_verdict}
+use Rattle.listing_statements.specs.Listing.{ListCall, ListLent, TileList, entries_from, listing_verdict}
 use Rattle.listing_statements.specs.Deciding.{DecideCall, DecideSays, decide_answer}
 use Rattle.listing_statements.specs.declared.TileListed.{TileListed}
 use Rattle.listing_statements.specs.declared.TileDecided.{TileDecided}
@@ -77,15 +76,15 @@ pub record BackWork (r r' : TileWorked) (back back' : WorkLent) : Type 0 where
 
 -- the mark, or the number of the refusal; the state with the painter's clip; the 256 coverages
 pub record BackPaint (r r' : Painted) (back back' : List Float) : Type 0 where
-  pub answer : paint_answer r'.answer ≡ paint_answer r.answer
+  pub answer : given_or_refused r'.answer ≡ given_or_refused r.answer
   pub state : state_in r'.state ≡ state_in r.state
-  pub plane : plane_read (paint_answer r'.answer) back' ≡ plane_read (paint_answer r.answer) back
+  pub plane : plane_read (given_or_refused r'.answer) back' ≡ plane_read (given_or_refused r.answer) back
 
 pub record BackList (r r' : TileListed) (back back' : ListLent) : Type 0 where
-  pub answer : list_answer r'.answer ≡ list_answer r.answer
+  pub answer : given_or_refused r'.answer ≡ given_or_refused r.answer
   pub state : state_in r'.state ≡ state_in r.state
-  pub list : entries_read (list_answer r'.answer) back'.list ≡ map opposite_entry (entries_read (list_answer r.answer) back.list)
-  pub carries : carries_read (list_answer r'.answer) (state_in r'.state) back'.queue ≡ map opposite_carry (carries_read (list_answer r.answer) (state_in r.state) back.queue)
+  pub list : entries_read (given_or_refused r'.answer) back'.list ≡ map opposite_entry (entries_read (given_or_refused r.answer) back.list)
+  pub carries : carries_read (given_or_refused r'.answer) (state_in r'.state) back'.queue ≡ map opposite_carry (carries_read (given_or_refused r.answer) (state_in r.state) back.queue)
 
 -- n being how many layers the decided tile lists
 pub record BackDecide (n : ℕ) (r r' : TileDecided) (back back' : List Bool) : Type 0 where
@@ -104,10 +103,10 @@ pub data BackCall (o : OpenRow) : RowCall → RowCall → Type 0 where
       ((n : ℕ) → work_verdict a lent ≡ refuse n → work_verdict a' lent' ≡ refuse n → (work_answer r'.answer ≡ work_answer r.answer) × (state_in r'.state ≡ state_in r.state)) →
       BackCall o (RowCall.row (Event.other_work a lent r back)) (RowCall.row (Event.other_work a' lent' r' back'))
   other_paint : {a a' : PaintCall} {plane plane' : List Float} {r r' : Painted} {back back' : List Float} →
-      ((n : ℕ) → paint_verdict a plane ≡ refuse n → paint_verdict a' plane' ≡ refuse n → (paint_answer r'.answer ≡ paint_answer r.answer) × (state_in r'.state ≡ state_in r.state)) →
+      ((n : ℕ) → paint_verdict a plane ≡ refuse n → paint_verdict a' plane' ≡ refuse n → (given_or_refused r'.answer ≡ given_or_refused r.answer) × (state_in r'.state ≡ state_in r.state)) →
       BackCall o (RowCall.row (Event.other_paint a plane r back)) (RowCall.row (Event.other_paint a' plane' r' back'))
   other_list : {a a' : ListCall} {lent lent' : ListLent} {r r' : TileListed} {back back' : ListLent} →
-      ((n : ℕ) → listing_verdict a lent ≡ refuse n → listing_verdict a' lent' ≡ refuse n → (list_answer r'.answer ≡ list_answer r.answer) × (state_in r'.state ≡ state_in r.state)) →
+      ((n : ℕ) → listing_verdict a lent ≡ refuse n → listing_verdict a' lent' ≡ refuse n → (given_or_refused r'.answer ≡ given_or_refused r.answer) × (state_in r'.state ≡ state_in r.state)) →
       BackCall o (RowCall.other_list a lent r back) (RowCall.other_list a' lent' r' back')
   other_decide : {a a' : DecideCall} {masks masks' : List Bool} {r r' : TileDecided} {back back' : List Bool} →
       (a ≡ a' → masks ≡ masks' → (decide_answer r'.answer ≡ decide_answer r.answer) × (r'.kept ≡ r.kept) × (back' ≡ back)) →
@@ -127,7 +126,7 @@ pub record BackOpening (s s' : State) (back back' : Columns) : Type 0 where
 -- where lent room is alike, the two openings answer the same: one is accepted exactly where the other is
 abbrev pub OpensBoth : Type 0
 OpensBoth =
-    (c : OpenCall) (lent lent' back back' : Columns) (r r' : Opened) →
+    (c : OpenCall) (lent lent' back back' : Columns) (r r' : Result RowState Refusal) →
     Mild cpu c.row →
     is_queue_short lent ≡ is_queue_short lent' →
     OpensRow (open_of c lent) r back →
@@ -139,8 +138,8 @@ Backwards =
     (c : OpenCall) (lent lent' back back' : Columns) (s s' : RowState) (es es' : List RowCall) (h h' : HeldAll) →
     Words c.row →
     Mild cpu c.row →
-    OpensRow (open_of c lent) (opened.Row s) back →
-    OpensRow (open_of (opposite_call c) lent') (opened.Row s') back' →
+    OpensRow (open_of c lent) (Ok s) back →
+    OpensRow (open_of (opposite_call c) lent') (Ok s') back' →
     RowCalls (open_row c) (held_with (held_first s back) []) es h →
     RowCalls (open_row (opposite_call c)) (held_with (held_first s' back') []) es' h' →
     AlikeCalls es es' →
@@ -151,7 +150,7 @@ Backwards =
 
 pub record RanBoth (c : OpenCall) (lent' back : Columns) (s : RowState) (cs : List CallChoice) : Type 0 where
   pub back' : Columns
-  pub opens' : OpensRow (open_of (opposite_call c) lent') (opened.Row s) back'
+  pub opens' : OpensRow (open_of (opposite_call c) lent') (Ok s) back'
   pub events : List RowCall
   pub events' : List RowCall
   pub after : HeldAll
@@ -167,5 +166,5 @@ RunsBoth =
     Words c.row →
     Mild cpu c.row →
     is_queue_short lent ≡ is_queue_short lent' →
-    OpensRow (open_of c lent) (opened.Row s) back →
+    OpensRow (open_of c lent) (Ok s) back →
     RanBoth c lent' back s cs

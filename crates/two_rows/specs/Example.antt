@@ -1,7 +1,7 @@
 -- Two rows that agree on layer 5, a clipped draw, and differ in its table's word and in what rests on other layers: whether it is changed, which layers
 -- are masked off, how many are skipped, the decision, and the layer's mark. In the first it stands alone; in the second a clip lies below it and an opaque draw over it. proofs/Example has it.
 use Rattle.std.specs.Prelude.{◌≡◌, ◌∷◌, ◌++◌}
-use Rattle.laws.specs.Prelude.{Bool, true, false, List, [], map, some, none, ℕ, Float, binary32, of_bits, pos, negsuc}
+use Rattle.laws.specs.Prelude.{Bool, true, false, List, [], map, Some, None, ℕ, Float, binary32, of_bits, pos, negsuc}
 use Rattle.laws.specs.Prelude.{replicate, tabulate}
 use Rattle.pixel_segment.specs.Field.{cpu}
 use Rattle.pixel_segment.specs.Pack.{word_of}
@@ -10,7 +10,6 @@ use Rattle.cached_tile.specs.Kept.{no_tile}
 use Rattle.pass_statements.specs.Decide.{Outcome}
 use Rattle.pass_statements.specs.Decision.{solid}
 use Rattle.layer_workbench.specs.Work.{entry_of}
-use Rattle.layer_workbench.specs.declared.PreviousClear.TheVariants.{Absent}
 use Rattle.row_statements.specs.Due.{OpenRow, table_on, layers_on, outcome_on, mark_on}
 use Rattle.two_rows.specs.Apart.{AgreeOn}
 
@@ -55,7 +54,7 @@ abbrev changes : OpenRow → List Bool
 changes o = map (λ e. e.changed) (map (entry_of (table_on o)) (layers_on o 0))
 
 abbrev decided : OpenRow → Outcome
-decided o = outcome_on o 0 no_tile clear Absent
+decided o = outcome_on o 0 no_tile clear None
 
 pub record Differing : Type 0 where
   pub agree : AgreeOn 5 alone among
@@ -64,4 +63,4 @@ pub record Differing : Type 0 where
   pub skips : ((decided alone).skipped ≡ 0) × ((decided among).skipped ≡ 2)
   pub decisions : ((decided alone).decision ≡ solid clear 0) × ((decided among).decision ≡ solid (record { r = of_bits binary32 0x3F800000; g = of_bits binary32 0x3F800000; b = of_bits binary32 0x3F800000; a = of_bits binary32 0x3F800000 }) 1)
   -- the first row has no clip for the layer; in the second it is painted after the clip, which lives up to layer 12
-  pub marks : (mark_on alone 0 5 none ≡ 0) × (mark_on among 0 5 (some 12) ≡ 0xFFFFFFFF)
+  pub marks : (mark_on alone 0 5 None ≡ 0) × (mark_on among 0 5 (Some 12) ≡ 0xFFFFFFFF)

@@ -1,7 +1,7 @@
 -- Where W-210 ends: -32 is a cover that the field of a segment holds, and 32 is not. A row with one cover of -32 and its opposite are both opened, and
 -- the carries are not opposite, nor are the coverages the same. So the claim of specs/Backwards is false of rows whose covers lie in -32 to 31.
 -- proofs/Lowest has it.
-use Rattle.std.specs.Prelude.{◌≡◌, ◌∷◌}
+use Rattle.std.specs.Prelude.{◌≡◌, ◌∷◌, Ok}
 use Rattle.laws.specs.Prelude.{[], map, ℕ, binary32, of_bits, ℤ, pos, negsuc, replicate}
 use Rattle.pixel_segment.specs.Field.{cpu, cover_of}
 use Rattle.pixel_segment.specs.Pack.{word_of}
@@ -12,7 +12,6 @@ use Rattle.row_statements.specs.State.{state_in}
 use Rattle.row_statements.specs.Opening.{OpenCall, open_of, OpensRow}
 use Rattle.row_statements.specs.Due.{plane_on}
 use Rattle.row_statements.specs.Run.{open_row}
-use Rattle.row_statements.specs.declared.Opened.TheVariants as opened
 use Rattle.row_statements.specs.declared.RowState.{RowState}
 use Rattle.two_rows.specs.Backwards.{opposite_call, BackOpening}
 
@@ -39,8 +38,8 @@ pub record Fails : Type 0 where
   pub state : RowState
   pub back : Columns
   pub back' : Columns
-  pub opens : OpensRow (open_of lowest_call (room 256)) (opened.Row state) back
-  pub opens' : OpensRow (open_of (opposite_call lowest_call) (room 256)) (opened.Row state) back'
+  pub opens : OpensRow (open_of lowest_call (room 256)) (Ok state) back
+  pub opens' : OpensRow (open_of (opposite_call lowest_call) (room 256)) (Ok state) back'
   -- what the claim would say of the opening, and of a painting
   pub carries_differ : BackOpening (state_in state) (state_in state) back back' → ⊥
   pub planes_differ : (plane_on (open_row (opposite_call lowest_call)) 0 5 ≡ plane_on (open_row lowest_call) 0 5) → ⊥

@@ -10,10 +10,8 @@ pub fn column_areas(covers: &[i8], areas: &mut [i16])
     requires { length areas.old ≡ length covers.now }
     ensures { areas.new ≡ column_areas covers.now }
 {
-    let mut y = 0;
-    while y < covers.len() {
-        areas[y] = 32 * (covers[y] as i16);
-        y += 1;
+    for (y, cover) in covers.iter().enumerate() {
+        areas[y] = 32 * (*cover as i16);
     }
 }
 
@@ -22,11 +20,8 @@ fn fill_row(value: f32, y: usize, plane: &mut [f32])
     requires { y * 16 + 16 ≤ length plane.old }
     ensures { plane.new ≡ put_row y (replicate 16 value) plane.old }
 {
-    let mut x = 0;
-    while x < 16 {
-        plane[y * 16 + x] = value;
-        x += 1;
-    }
+    let start = y * 16;
+    plane[start..start + 16].fill(value);
 }
 
 // One column in all columns of a plane. What lies past them stays.
@@ -35,9 +30,7 @@ pub fn repeat_column(column: &[f32], plane: &mut [f32])
     ensures { plane.new
         ≡ over (repeated (length column.now) column.now) plane.old }
 {
-    let mut y = 0;
-    while y < column.len() {
-        fill_row(column[y], y, plane);
-        y += 1;
+    for (y, value) in column.iter().enumerate() {
+        fill_row(*value, y, plane);
     }
 }

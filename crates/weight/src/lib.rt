@@ -17,18 +17,14 @@ use styling::FillRule;
 pub fn magnitude(x: i16) -> u16
     ensures { result ≡ nat_abs x }
 {
-    if x < 0 {
-        (0 - x as i32) as u16
-    } else {
-        x as u16
-    }
+    x.unsigned_abs()
 }
 
 // The absolute value of a cover, of -128 too.
 pub fn cover_magnitude(cover: i8) -> u16
     ensures { (result ≡ nat_abs cover) × (result ≤ 128) }
 {
-    magnitude(cover as i16)
+    cover.unsigned_abs() as u16
 }
 
 // The remainder of a cover by 32. 128 is a multiple of 32, and with it no cover is negative.
@@ -41,8 +37,7 @@ pub fn rest_of_cover(cover: i8) -> u8
 pub fn non_zero(d: i16) -> u16
     ensures { result ≡ non_zero_of d }
 {
-    let a = magnitude(d);
-    if a < 512 { a } else { 512 }
+    magnitude(d).min(512)
 }
 
 // The remainder of d by 1,024. 32,768 is a multiple of it, and with it no d is negative.

@@ -2,18 +2,9 @@
 ghost use Rattle.std.specs.Prelude.{◌≡◌, ◌≤◌, pos, nat_abs};
 ghost use Rattle.cover_statements.specs.Weight.{non_zero_of};
 
-// The absolute value.
-fn magnitude(d: i16) -> i16
-    requires { nat_abs d ≤ 8001 }
-    ensures { result ≡ pos (nat_abs d) }
-{
-    if d < 0 { 0 - d } else { d }
-}
-
 pub fn non_zero(d: i16) -> i16
     requires { nat_abs d ≤ 8001 }
     ensures { result ≡ pos (non_zero_of d) }
 {
-    let a = magnitude(d);
-    if a < 512 { a } else { 512 }
+    d.abs().min(512)
 }

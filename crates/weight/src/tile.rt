@@ -22,10 +22,8 @@ pub fn weigh_non_zero(areas: &mut [i16])
     requires { InRange areas.old }
     ensures { areas.new ≡ weights_of NonZero areas.old }
 {
-    let mut k = 0;
-    while k < areas.len() {
-        areas[k] = small::non_zero(areas[k]);
-        k += 1;
+    for area in areas.iter_mut() {
+        *area = small::non_zero(*area);
     }
 }
 
@@ -34,10 +32,8 @@ pub fn weigh_even_odd(areas: &mut [i16])
     ensures { areas.new ≡ weights_of EvenOdd areas.old }
 {
     let table = weight_table::weights();
-    let mut k = 0;
-    while k < areas.len() {
-        areas[k] = crate::even_odd_in(&table, areas[k]) as i16;
-        k += 1;
+    for area in areas.iter_mut() {
+        *area = crate::even_odd_in(&table, *area) as i16;
     }
 }
 
@@ -57,10 +53,8 @@ pub fn write_coverages(weights: &[i16], plane: &mut [f32])
     requires { Weighed weights.now × (length weights.now ≤ length plane.old) }
     ensures { plane.new ≡ over (coverages_in weights.now) plane.old }
 {
-    let mut k = 0;
-    while k < weights.len() {
-        plane[k] = crate::coverage(weights[k] as u16);
-        k += 1;
+    for (k, weight) in weights.iter().enumerate() {
+        plane[k] = crate::coverage(*weight as u16);
     }
 }
 
@@ -70,10 +64,8 @@ pub fn row_of(weights: &[i16], rows: usize, y: usize) -> [i16; 16]
     ensures { result ≡ tabulate 16 (λ x. cover_at weights.now (x * rows + y)) }
 {
     let mut row = [0i16; 16];
-    let mut x = 0;
-    while x < 16 {
+    for x in 0..16 {
         row[x] = weights[x * rows + y];
-        x += 1;
     }
     row
 }
@@ -83,10 +75,8 @@ pub fn write_row(row: &[i16; 16], y: usize, plane: &mut [f32])
     requires { Weighed row.now × (length row.now ≡ 16) × (y * 16 + 16 ≤ length plane.old) }
     ensures { plane.new ≡ put_row y (coverages_in row.now) plane.old }
 {
-    let mut x = 0;
-    while x < 16 {
-        plane[y * 16 + x] = crate::coverage(row[x] as u16);
-        x += 1;
+    for (x, weight) in row.iter().enumerate() {
+        plane[y * 16 + x] = crate::coverage(*weight as u16);
     }
 }
 
@@ -97,11 +87,9 @@ pub fn write_plane(weights: &[i16], plane: &mut [f32])
     requires { Weighed weights.now × (256 ≤ length weights.now) × (256 ≤ length plane.old) }
     ensures { plane.new ≡ over (weights_plane 16 weights.now) plane.old }
 {
-    let mut y = 0;
-    while y < 16 {
+    for y in 0..16 {
         let row = row_of(weights, 16, y);
         write_row(&row, y, plane);
-        y += 1;
     }
 }
 
@@ -112,10 +100,8 @@ fn write_even_odd_row(table: &[u16; 1024], areas: &[i16], y: usize, plane: &mut 
     ensures { plane.new
         ≡ put_row y (weights_row 16 (weights_of EvenOdd areas.now) y) plane.old }
 {
-    let mut x = 0;
-    while x < 16 {
+    for x in 0..16 {
         plane[y * 16 + x] = crate::coverage(crate::even_odd_in(table, areas[x * 16 + y]));
-        x += 1;
     }
 }
 
@@ -127,9 +113,7 @@ pub fn write_even_odd(areas: &[i16], plane: &mut [f32])
         ≡ over (weights_plane 16 (weights_of EvenOdd areas.now)) plane.old }
 {
     let table = weight_table::weights();
-    let mut y = 0;
-    while y < 16 {
+    for y in 0..16 {
         write_even_odd_row(&table, areas, y, plane);
-        y += 1;
     }
 }

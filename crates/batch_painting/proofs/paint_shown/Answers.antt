@@ -1,26 +1,7 @@
 -- `paint_shown` meets its contract. Assumes nothing.
-use Rattle.laws.proofs.Prelude.{rules}
 use Rattle.layer_table.specs.Table.{table_of}
 use Rattle.batch_painting.proofs.Walking.{all_painted, not_painted}
 use Rattle.batch_painting.proofs.paint_shown.Goals as goal
-
-pub paint_listed-made-requires : goal.paint_listed-made-requires
-paint_listed-made-requires c = search rules
-
-pub with_clip-requires : goal.with_clip-requires
-with_clip-requires c = search rules
-
-pub count_shown-shown-requires : goal.count_shown-shown-requires
-count_shown-shown-requires c = search rules
-
-pub overflow_cast-result : goal.overflow_cast-result
-overflow_cast-result c = search rules
-
-pub shape_of-planes : goal.shape_of-planes
-shape_of-planes c = search rules
-
-pub shape_of-painted : goal.shape_of-painted
-shape_of-painted c = search rules
 
 pub returns-then-paints : goal.returns-then-paints
 returns-then-paints c =

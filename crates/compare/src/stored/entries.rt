@@ -5,15 +5,10 @@ use crate::stored::{numbers, text};
 // The place after n numbers, which `out` then holds from the front on; fewer where it is shorter.
 pub fn fill_covers(text: &[u8], at: usize, out: &mut [i8], n: usize) -> usize {
     let mut place = at;
-    let mut i: usize = 0;
-    while i < out.len() {
-        if n <= i {
-            return place;
-        }
+    for slot in out.iter_mut().take(n) {
         let number = text::next(text, place);
-        out[i] = numbers::signed_8(number.value);
+        *slot = numbers::signed_8(number.value);
         place = number.at;
-        i += 1;
     }
     place
 }
@@ -29,21 +24,17 @@ fn next_if(text: &[u8], at: usize, stands: bool) -> Number {
 // The place after the first n flags of each 256; the others are false.
 pub fn fill_flags(text: &[u8], at: usize, out: &mut [bool], n: usize) -> usize {
     let mut place = at;
-    let mut i: usize = 0;
-    while i < out.len() {
+    for (i, flag) in out.iter_mut().enumerate() {
         let number = next_if(text, place, i % 256 < n);
-        out[i] = numbers::flag(number.value);
+        *flag = numbers::flag(number.value);
         place = number.at;
-        i += 1;
     }
     place
 }
 
 // Each number from place n on is `first` and its place.
 pub fn count_on(out: &mut [u32], n: usize, first: u64) {
-    let mut i = n;
-    while i < out.len() {
-        out[i] = numbers::word(std::num::wrapping_add_u64(first, i as u64));
-        i += 1;
+    for (i, number) in out.iter_mut().enumerate().skip(n) {
+        *number = numbers::word(first.wrapping_add(i as u64));
     }
 }

@@ -5,83 +5,64 @@ use crate::stored::{numbers, text};
 // The place after n numbers, which `out` then holds from the front on; fewer where it is shorter.
 pub fn fill(text: &[u8], at: usize, out: &mut [u64], n: usize) -> usize {
     let mut place = at;
-    let mut i: usize = 0;
-    while i < out.len() {
-        if n <= i {
-            return place;
-        }
+    for slot in out.iter_mut().take(n) {
         let number = text::next(text, place);
-        out[i] = number.value;
+        *slot = number.value;
         place = number.at;
-        i += 1;
     }
     place
 }
 
 pub fn fill_words(text: &[u8], at: usize, out: &mut [u32], n: usize) -> usize {
     let mut place = at;
-    let mut i: usize = 0;
-    while i < out.len() {
-        if n <= i {
-            return place;
-        }
+    for slot in out.iter_mut().take(n) {
         let number = text::next(text, place);
-        out[i] = numbers::word(number.value);
+        *slot = numbers::word(number.value);
         place = number.at;
-        i += 1;
     }
     place
 }
 
 pub fn fill_floats(text: &[u8], at: usize, out: &mut [f32], n: usize) -> usize {
     let mut place = at;
-    let mut i: usize = 0;
-    while i < out.len() {
-        if n <= i {
-            return place;
-        }
+    for slot in out.iter_mut().take(n) {
         let number = text::next(text, place);
-        out[i] = numbers::float(number.value);
+        *slot = numbers::float(number.value);
         place = number.at;
-        i += 1;
     }
     place
 }
 
 // The first n of a list; all where it is shorter.
 pub fn front(list: &[u64], n: usize) -> &[u64] {
-    if n <= list.len() { &list[0..n] } else { list }
+    &list[..n.min(list.len())]
 }
 
 pub fn front_words(list: &[u32], n: usize) -> &[u32] {
-    if n <= list.len() { &list[0..n] } else { list }
+    &list[..n.min(list.len())]
 }
 
 pub fn front_floats(list: &[f32], n: usize) -> &[f32] {
-    if n <= list.len() { &list[0..n] } else { list }
+    &list[..n.min(list.len())]
 }
 
 // The place after as many numbers as `out` has, which it then holds.
 pub fn fill_covers(text: &[u8], at: usize, out: &mut [i8]) -> usize {
     let mut place = at;
-    let mut i: usize = 0;
-    while i < out.len() {
+    for slot in out {
         let number = text::next(text, place);
-        out[i] = numbers::signed_8(number.value);
+        *slot = numbers::signed_8(number.value);
         place = number.at;
-        i += 1;
     }
     place
 }
 
 pub fn fill_bytes(text: &[u8], at: usize, out: &mut [u8]) -> usize {
     let mut place = at;
-    let mut i: usize = 0;
-    while i < out.len() {
+    for slot in out {
         let number = text::next(text, place);
-        out[i] = numbers::byte(number.value);
+        *slot = numbers::byte(number.value);
         place = number.at;
-        i += 1;
     }
     place
 }
@@ -89,15 +70,10 @@ pub fn fill_bytes(text: &[u8], at: usize, out: &mut [u8]) -> usize {
 // The place after n numbers, which `out` then holds from the front on; fewer where it is shorter.
 pub fn fill_some_bytes(text: &[u8], at: usize, out: &mut [u8], n: usize) -> usize {
     let mut place = at;
-    let mut i: usize = 0;
-    while i < out.len() {
-        if n <= i {
-            return place;
-        }
+    for slot in out.iter_mut().take(n) {
         let number = text::next(text, place);
-        out[i] = numbers::byte(number.value);
+        *slot = numbers::byte(number.value);
         place = number.at;
-        i += 1;
     }
     place
 }
@@ -115,16 +91,11 @@ fn hold_word(text: &[u8], cursor: Cursor, found: u32, stored: bool, rest: u32) -
 
 // Whether the first n are the stored ones, and each after them is `rest`.
 pub fn expect_words(text: &[u8], cursor: Cursor, found: &[u32], n: usize, rest: u32) -> Cursor {
-    let mut at = cursor.at;
-    let mut same = cursor.same;
-    let mut i: usize = 0;
-    while i < found.len() {
-        let held = hold_word(text, Cursor { at: at, same: same }, found[i], i < n, rest);
-        at = held.at;
-        same = held.same;
-        i += 1;
+    let mut held = cursor;
+    for (i, word) in found.iter().enumerate() {
+        held = hold_word(text, held, *word, i < n, rest);
     }
-    Cursor { at: at, same: same }
+    held
 }
 
 fn hold_cover(text: &[u8], cursor: Cursor, found: i8, stored: bool, rest: i8) -> Cursor {
@@ -139,30 +110,18 @@ fn hold_cover(text: &[u8], cursor: Cursor, found: i8, stored: bool, rest: i8) ->
 
 // Whether the first n are the stored ones, and each after them is `rest`.
 pub fn expect_covers(text: &[u8], cursor: Cursor, found: &[i8], n: usize, rest: i8) -> Cursor {
-    let mut at = cursor.at;
-    let mut same = cursor.same;
-    let mut i: usize = 0;
-    while i < found.len() {
-        let held = hold_cover(text, Cursor { at: at, same: same }, found[i], i < n, rest);
-        at = held.at;
-        same = held.same;
-        i += 1;
+    let mut held = cursor;
+    for (i, cover) in found.iter().enumerate() {
+        held = hold_cover(text, held, *cover, i < n, rest);
     }
-    Cursor { at: at, same: same }
+    held
 }
 
 // Whether all bytes are the stored ones.
 fn expect_bytes(text: &[u8], cursor: Cursor, found: &[u8]) -> Cursor {
-    let mut at = cursor.at;
-    let mut same = cursor.same;
-    let mut i: usize = 0;
-    while i < found.len() {
-        let held = text::expect_byte(text, Cursor { at: at, same: same }, found[i]);
-        at = held.at;
-        same = held.same;
-        i += 1;
-    }
-    Cursor { at: at, same: same }
+    found
+        .iter()
+        .fold(cursor, |held, byte| text::expect_byte(text, held, *byte))
 }
 
 // Whether a cover, a cached tile or a colour is the stored one.
@@ -179,16 +138,7 @@ pub fn expect_color(text: &[u8], cursor: Cursor, found: [u8; 4]) -> Cursor {
 }
 
 pub fn expect_floats(text: &[u8], cursor: Cursor, found: &[f32]) -> Cursor {
-    let mut at = cursor.at;
-    let mut same = cursor.same;
-    let mut i: usize = 0;
-    while i < found.len() {
-        let held = text::expect_float(text, Cursor { at: at, same: same }, found[i]);
-        at = held.at;
-        same = held.same;
-        i += 1;
-    }
-    Cursor { at: at, same: same }
+    found.iter().fold(cursor, |held, float| text::expect_float(text, held, *float))
 }
 
 fn hold_flag(text: &[u8], cursor: Cursor, found: bool, stored: bool) -> Cursor {
@@ -203,43 +153,20 @@ fn hold_flag(text: &[u8], cursor: Cursor, found: bool, stored: bool) -> Cursor {
 
 // Whether in each 256 of them the first n are the stored ones, and the others are false.
 pub fn expect_flags(text: &[u8], cursor: Cursor, found: &[bool], n: usize) -> Cursor {
-    let mut at = cursor.at;
-    let mut same = cursor.same;
-    let mut i: usize = 0;
-    while i < found.len() {
-        let held = hold_flag(text, Cursor { at: at, same: same }, found[i], i % 256 < n);
-        at = held.at;
-        same = held.same;
-        i += 1;
+    let mut held = cursor;
+    for (i, flag) in found.iter().enumerate() {
+        held = hold_flag(text, held, *flag, i % 256 < n);
     }
-    Cursor { at: at, same: same }
+    held
 }
 
 // The first n of one list into another.
 pub fn copy_words(from: &[u32], to: &mut [u32], n: usize) {
-    let mut i: usize = 0;
-    while i < to.len() {
-        if n <= i {
-            return;
-        }
-        if from.len() <= i {
-            return;
-        }
-        to[i] = from[i];
-        i += 1;
-    }
+    let many = n.min(from.len()).min(to.len());
+    to[..many].copy_from_slice(&from[..many]);
 }
 
 pub fn copy_covers(from: &[i8], to: &mut [i8], n: usize) {
-    let mut i: usize = 0;
-    while i < to.len() {
-        if n <= i {
-            return;
-        }
-        if from.len() <= i {
-            return;
-        }
-        to[i] = from[i];
-        i += 1;
-    }
+    let many = n.min(from.len()).min(to.len());
+    to[..many].copy_from_slice(&from[..many]);
 }

@@ -11,30 +11,15 @@ pub fn word(value: u64) -> u32 {
 }
 
 pub fn signed_8(value: u64) -> i8 {
-    let bits = value % 256;
-    if bits < 128 {
-        bits as i8
-    } else {
-        !((255 - bits) as i8)
-    }
+    byte(value).cast_signed()
 }
 
 pub fn signed_16(value: u64) -> i16 {
-    let bits = value % 65536;
-    if bits < 32768 {
-        bits as i16
-    } else {
-        !((65535 - bits) as i16)
-    }
+    ((value % 65536) as u16).cast_signed()
 }
 
 pub fn signed_32(value: u64) -> i32 {
-    let bits = value % 4294967296;
-    if bits < 2147483648 {
-        bits as i32
-    } else {
-        !((4294967295 - bits) as i32)
-    }
+    word(value).cast_signed()
 }
 
 pub fn flag(value: u64) -> bool {
@@ -45,7 +30,7 @@ pub fn flag(value: u64) -> bool {
 pub fn length(value: u64) -> usize
     ensures { result ≤ 4096 }
 {
-    if value < 4096 { value as usize } else { 4096 }
+    value.min(4096) as usize
 }
 
 // 0 to 0x7fff: a multiple of 1/512. 0x8000: minus zero. 0x8001: infinity. 0x8002: no number.

@@ -28,16 +28,14 @@ fn digit(byte: u8) -> u8
     }
 }
 
-// The place of the next digit.
+// The place of the next digit, or the end of the text.
 fn skip(text: &[u8], at: usize) -> usize {
-    let mut i = at;
-    while i < text.len() {
+    for i in at..text.len() {
         if digit(text[i]) < 16 {
             return i;
         }
-        i += 1;
     }
-    i
+    text.len()
 }
 
 fn append(value: u64, digit: u8) -> u64
@@ -48,9 +46,8 @@ fn append(value: u64, digit: u8) -> u64
 
 // The next number, and the place after it.
 pub fn next(text: &[u8], at: usize) -> Number {
-    let mut i = skip(text, at);
     let mut value: u64 = 0;
-    while i < text.len() {
+    for i in skip(text, at)..text.len() {
         let d = digit(text[i]);
         if 15 < d {
             return Number {
@@ -59,11 +56,10 @@ pub fn next(text: &[u8], at: usize) -> Number {
             };
         }
         value = append(value, d);
-        i += 1;
     }
     Number {
         value: value,
-        at: i,
+        at: text.len(),
     }
 }
 

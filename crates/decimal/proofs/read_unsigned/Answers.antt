@@ -1,4 +1,4 @@
--- `read_unsigned` meets its contract. The invariant and its steps are those of `Reading`; the measure is what is left of the text.
+-- `read_unsigned` meets its contract. The invariant and its steps are those of `Reading`.
 -- Assumes nothing.
 use Rattle.laws.proofs.Prelude.{arith, get_or}
 use Rattle.decimal.proofs.Steps.{digit_range, is_false, is_true}

@@ -1,10 +1,5 @@
-use Rattle.std.specs.Prelude.{◌-◌}
-use Rattle.laws.proofs.Prelude.{length}
 use Rattle.decimal.proofs.Reading.{Reading}
 use Rattle.decimal.proofs.read_unsigned.Given as goal
 
 abbrev pub invariant-loop-i : goal.invariant-loop-i
 invariant-loop-i l = Reading l.limit l.s l.at l.n l.i
-
-abbrev pub decreases-loop-i : goal.decreases-loop-i
-decreases-loop-i l = length l.s - l.i

@@ -6,12 +6,12 @@ use Rattle.job_row.proofs.pack.Goals as goal
 pub overflow_add-f : goal.overflow_add-f
 overflow_add-f c = omega (arith, down_in_tile c.args.f c.args.tile_y c.args.i c.requires)
 
-pub returns-in-Segment : goal.returns-in-Segment
-returns-in-Segment c =
+pub returns-in-Ok : goal.returns-in-Ok
+returns-in-Ok c =
     segment_is c.args.f c.args.tile_y c.args.i c.requires
-    (rw (c.in-Segment.is, kept w16 c.args.f.tile_x (omega arith), to_z-of_z c.ranges.tile_y, kept w8 c.args.f.cover (omega arith)) at c.new.ensures.answer)
+    (rw (c.in-Ok.is, kept w16 c.args.f.tile_x (omega arith), to_z-of_z c.ranges.tile_y, kept w8 c.args.f.cover (omega arith)) at c.new.ensures.answer)
 
-pub returns-in-FieldOutOfRange : goal.returns-in-FieldOutOfRange
-returns-in-FieldOutOfRange c =
+pub returns-in-Err : goal.returns-in-Err
+returns-in-Err c =
     never_refused c.args.f c.args.tile_y c.args.i c.requires
-    (rw (c.in-FieldOutOfRange.is, kept w16 c.args.f.tile_x (omega arith), to_z-of_z c.ranges.tile_y, kept w8 c.args.f.cover (omega arith)) at c.new.ensures.answer)
+    (rw (c.in-Err.is, kept w16 c.args.f.tile_x (omega arith), to_z-of_z c.ranges.tile_y, kept w8 c.args.f.cover (omega arith)) at c.new.ensures.answer)

@@ -19,18 +19,18 @@ judged c =
 pub overflow_cast-row : goal.overflow_cast-row
 overflow_cast-row c = rw (to_z-of_z c.ranges.row) (sfits_widen tt c.ranges.row)
 
-pub returns-in-Segment : goal.returns-in-Segment
-returns-in-Segment c =
+pub returns-in-Ok : goal.returns-in-Ok
+returns-in-Ok c =
     let r = c.args.row in
-    let is = ap packed_answer c.in-Segment.is in
+    let is = ap packed_answer c.in-Ok.is in
     let taken : is_tile_y r ≡ true =
-    sym (row_taken r) ∙ (given_word cpu cpu_layout (pos 0) (pos 0) r (pos 0) (pos 0) (pos 0) (pos 0) (sym (judged (goal.at.returns-in-Segment c).After-pack).answer ∙ is)).0 in
-    kept w16 c.tile_y.result c.tile_y.type_inv ∙ c.tile_y.ensures ∙ ((judged (goal.at.returns-in-Segment c).After-pack).back _ is).tile_y ∙ sym (row_kept r taken)
+    sym (row_taken r) ∙ (given_word cpu cpu_layout (pos 0) (pos 0) r (pos 0) (pos 0) (pos 0) (pos 0) (sym (judged (goal.at.returns-in-Ok c).After-pack).answer ∙ is)).0 in
+    kept w16 c.tile_y.result c.tile_y.type_inv ∙ c.tile_y.ensures ∙ ((judged (goal.at.returns-in-Ok c).After-pack).back _ is).tile_y ∙ sym (row_kept r taken)
 
-pub returns-in-FieldOutOfRange : goal.returns-in-FieldOutOfRange
-returns-in-FieldOutOfRange c =
+pub returns-in-Err : goal.returns-in-Err
+returns-in-Err c =
     let r = c.args.row in
-    let is = ap packed_answer c.in-FieldOutOfRange.is in
+    let is = ap packed_answer c.in-Err.is in
     let left : is_tile_y r ≡ false =
-    sym (row_taken r) ∙ refused_means cpu cpu_layout (pos 0) (pos 0) r (pos 0) (pos 0) (pos 0) (pos 0) (sym (judged (goal.at.returns-in-FieldOutOfRange c).After-pack).answer ∙ is) in
+    sym (row_taken r) ∙ refused_means cpu cpu_layout (pos 0) (pos 0) r (pos 0) (pos 0) (pos 0) (pos 0) (sym (judged (goal.at.returns-in-Err c).After-pack).answer ∙ is) in
     sym (row_dropped r left)

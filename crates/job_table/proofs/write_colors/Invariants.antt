@@ -1,10 +1,7 @@
-use Rattle.std.specs.Prelude.{◌*◌, ◌-◌}
+use Rattle.std.specs.Prelude.{◌*◌}
 use Rattle.job_statements.specs.Entries.{job_color_at}
 use Rattle.job_statements.proofs.Filling.{Filling}
 use Rattle.job_table.proofs.write_colors.Given as goal
 
 abbrev pub invariant-loop-k : goal.invariant-loop-k
 invariant-loop-k l = Filling (4 * l.n) (job_color_at l.numbers) l.initial.colors l.k l.colors
-
-abbrev pub decreases-loop-k : goal.decreases-loop-k
-decreases-loop-k l = 4 * l.n - l.k

@@ -7,13 +7,13 @@ use Rattle.kept_count.proofs.Verdicts.{keep_passed, refused_by, done_by}
 use Rattle.kept_count.proofs.keep_count.Goals as goal
 
 pub stay-requires : goal.stay-requires
-stay-requires c = keep_passed _ _ _ (sym c.judge_keeping.ensures ∙ ap judgement_in c.in-Pass.is)
+stay-requires c = keep_passed _ _ _ (sym c.judge_keeping.ensures ∙ ap judgement_in c.in-Ok.is)
 
-pub returns-in-Refuse : goal.returns-in-Refuse
-returns-in-Refuse c = refused_by _ (sym c.judge_keeping.ensures ∙ ap judgement_in c.in-Refuse.is)
+pub returns-in-Err : goal.returns-in-Err
+returns-in-Err c = refused_by _ (sym c.judge_keeping.ensures ∙ ap judgement_in c.in-Err.is)
 
-pub returns-in-Pass : goal.returns-in-Pass
-returns-in-Pass c =
+pub returns-in-Ok : goal.returns-in-Ok
+returns-in-Ok c =
     let a = c.args in
-    let passes : keep_verdict (lent_members a.last_ids.now a.last_kinds.now a.last) (lent_members a.ids.now a.kinds.now a.n) a.kept ≡ pass = sym c.judge_keeping.ensures ∙ ap judgement_in c.in-Pass.is in
+    let passes : keep_verdict (lent_members a.last_ids.now a.last_kinds.now a.last) (lent_members a.ids.now a.kinds.now a.n) a.kept ≡ pass = sym c.judge_keeping.ensures ∙ ap judgement_in c.in-Ok.is in
     done_by a.kept passes c.stay.ensures c.keep_or_drop.ensures

@@ -1,7 +1,6 @@
 -- `open_layer_row` meets its contract. Assumes nothing.
-use Rattle.std.specs.Prelude.{◌≡◌}
+use Rattle.std.specs.Prelude.{◌≡◌, Ok}
 use Rattle.laws.proofs.Prelude.{sym, ap, ◌∙◌, to_z-of_z}
-use Rattle.refusals.specs.declared.Verdict.TheVariants.{Pass}
 use Rattle.refusals.specs.Refusal.{Judgement, judgement_in, pass}
 use Rattle.layer_row_gpu.specs.OpenLayer.{LayerCall, layer_call, call_verdict_of, opened_state}
 use Rattle.layer_row_gpu.proofs.Verdicts.{openable}
@@ -17,24 +16,24 @@ told : (c : After-judge_opening) → judgement_in c.judge_opening.result ≡ cal
 told c =
     rw (to_z-of_z c.ranges.tile_y, to_z-of_z c.ranges.from, to_z-of_z c.ranges.to) at c.judge_opening.ensures
 
-passes : (c : After-judge_opening) → c.judge_opening.result ≡ Pass → call_verdict_of (called c) ≡ pass
+passes : (c : After-judge_opening) → c.judge_opening.result ≡ Ok tt → call_verdict_of (called c) ≡ pass
 passes c e = sym (told c) ∙ ap judgement_in e
 
 pub open-state-requires : goal.open-state-requires
 open-state-requires c =
-    rw (to_z-of_z c.ranges.tile_y, to_z-of_z c.ranges.from, to_z-of_z c.ranges.to) (openable (called (goal.at.open-state-requires c).After-judge_opening) (passes (goal.at.open-state-requires c).After-judge_opening c.in-Pass.is))
+    rw (to_z-of_z c.ranges.tile_y, to_z-of_z c.ranges.from, to_z-of_z c.ranges.to) (openable (called (goal.at.open-state-requires c).After-judge_opening) (passes (goal.at.open-state-requires c).After-judge_opening c.in-Ok.is))
 
-pub returns-in-Refuse : goal.returns-in-Refuse
-returns-in-Refuse c =
-    let v = sym (told (goal.at.returns-in-Refuse c).After-judge_opening) ∙ ap judgement_in c.in-Refuse.is in
-    record { answer = sym v; state_is = c.closed-state.ensures ∙ sym (ap (λ (k : Judgement). opened_state k (called (goal.at.returns-in-Refuse c).After-judge_opening)) v) }
+pub returns-in-Err : goal.returns-in-Err
+returns-in-Err c =
+    let v = sym (told (goal.at.returns-in-Err c).After-judge_opening) ∙ ap judgement_in c.in-Err.is in
+    record { answer = sym v; state_is = c.closed-state.ensures ∙ sym (ap (λ (k : Judgement). opened_state k (called (goal.at.returns-in-Err c).After-judge_opening)) v) }
 
-pub returns-in-Pass : goal.returns-in-Pass
-returns-in-Pass c =
-    let v = passes (goal.at.returns-in-Pass c).After-judge_opening c.in-Pass.is in
+pub returns-in-Ok : goal.returns-in-Ok
+returns-in-Ok c =
+    let v = passes (goal.at.returns-in-Ok c).After-judge_opening c.in-Ok.is in
     record {
       answer = sym v;
       state_is =
           (rw (to_z-of_z c.ranges.tile_y, to_z-of_z c.ranges.from, to_z-of_z c.ranges.to) at c.open-state.ensures)
-          ∙ sym (ap (λ (k : Judgement). opened_state k (called (goal.at.returns-in-Pass c).After-judge_opening)) v);
+          ∙ sym (ap (λ (k : Judgement). opened_state k (called (goal.at.returns-in-Ok c).After-judge_opening)) v);
     }

@@ -1,6 +1,5 @@
 -- `layer_table::find_from` meets its contract: a record that is tried and has the id stands in its place, and else the table is searched.
 -- Assumes nothing.
-use Rattle.std.specs.Prelude.{◌+◌}
 use Rattle.layer_table.proofs.Halving.{tried}
 use Rattle.layer_table.proofs.find_from.Goals as goal
 
@@ -10,10 +9,4 @@ returns-then-is_at c =
 
 pub returns-then-is_at-2 : goal.returns-then-is_at-2
 returns-then-is_at-2 c =
-    tried c.args.layers.now c.args.count c.args.id (c.args.hint + c.loop-k.k) c.requires.1 c.is_at-in-loop-k.ensures c.if-is_at-2.true
-
-pub find-requires : goal.find-requires
-find-requires c = c.requires
-
-pub returns : goal.returns
-returns c = c.find.ensures
+    tried c.args.layers.now c.args.count c.args.id c.loop-at.at c.requires.1 c.is_at-in-loop-at.ensures c.if-is_at-2.true

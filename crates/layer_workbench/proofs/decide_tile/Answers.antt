@@ -15,4 +15,4 @@ pub returns : goal.returns
 returns c =
     let a = c.args in
     decided (table_of a.layers.now a.colors.now a.count) (entries_of a.n a.ids.now a.covers.now a.flags.now) a.kept a.clear a.previous a.n a.unmasked.now _
-    c.update_layer_count-counted.ensures c.is_clear_unchanged.ensures c.previous_count.ensures c.decide-decided.ensures c.kept_by-after.ensures
+    c.update_layer_count-counted.ensures c.is_clear_unchanged.ensures c.decide-decided.ensures c.kept_by-after.ensures

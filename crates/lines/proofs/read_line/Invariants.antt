@@ -1,8 +1,5 @@
 use Rattle.lines.proofs.LineReading.{LineReading}
 use Rattle.lines.proofs.read_line.Given as goal
 
-abbrev pub invariant-loop-left : goal.invariant-loop-left
-invariant-loop-left l = LineReading l.k l.s l.at l.initial.out l.o l.i l.p l.left l.out
-
-abbrev pub decreases-loop-left : goal.decreases-loop-left
-decreases-loop-left l = l.left
+abbrev pub invariant-loop-j : goal.invariant-loop-j
+invariant-loop-j l = LineReading l.k l.s l.at l.initial.out l.o l.i l.j l.out

@@ -1,20 +1,14 @@
--- `read_prefix` meets its contract. The invariant and its steps are those of `PrefixReading`; the measure is what is left of the prefix.
+-- `read_prefix` meets its contract: the two answers are laws of `PrefixReading`.
 -- Assumes nothing.
-use Rattle.laws.proofs.Prelude.{arith}
-use Rattle.lines.proofs.PrefixReading.{start, short, other, next, end}
+use Rattle.std.proofs.lemmas.List.{take_rest}
+use Rattle.laws.proofs.Prelude.{◌≤◌, length, drop, arith, length-drop}
+use Rattle.lines.proofs.PrefixReading.{passed, other}
 use Rattle.lines.proofs.read_prefix.Goals as goal
 
-pub loop-j-init : goal.loop-j-init
-loop-j-init c = start c.requires
+pub returns-then-starts_with : goal.returns-then-starts_with
+returns-then-starts_with c =
+    let fits : length c.args.prefix.now ≤ length (drop c.args.at c.args.s.now) = rw take_rest at (c.starts_with.ensures.bound c.if-starts_with.true) in
+    passed (rw take_rest at c.starts_with.ensures.value) c.if-starts_with.true (omega (arith, length-drop c.args.at c.args.s.now))
 
-pub returns-then-s-i : goal.returns-then-s-i
-returns-then-s-i c = short c.loop-j.invariant (omega arith) (omega arith)
-
-pub returns-then-s-i-2 : goal.returns-then-s-i-2
-returns-then-s-i-2 c = other c.loop-j.invariant (omega arith) (omega arith) c.if-s-i-2.true
-
-pub loop-j-preserved : goal.loop-j-preserved
-loop-j-preserved c = next c.loop-j.invariant (omega arith) (omega arith) c.if-s-i-2.false
-
-pub returns : goal.returns
-returns c = end c.loop-j.invariant (omega arith)
+pub returns-else-starts_with : goal.returns-else-starts_with
+returns-else-starts_with c = other (rw take_rest at c.starts_with.ensures.value) c.if-starts_with.false

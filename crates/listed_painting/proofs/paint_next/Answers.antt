@@ -12,44 +12,35 @@ next_layer-next-requires c =
     let h = c.requires.1 in
     (c.requires.0.walks, h.carries_in, h.segments_in, more (table_of a.layers.now a.colors.now a.count) a.n a.ids.now a.covers.now a.part.now h c.requires.2.listed)
 
-pub incoming_cover-cover-requires : goal.incoming_cover-cover-requires
-incoming_cover-cover-requires c = λ e. omega (arith, c.next_layer-next.ensures.moved.has e, c.requires.0.queued.covers_long)
-
 pub layer_at-layer-requires : goal.layer_at-layer-requires
 layer_at-layer-requires c =
     let t = c.requires.0.in_table in
-    let found = at_place {floats = c.args.colors.now} c.in-At.is c.find_from.ensures t.ascending in
+    let found = at_place {floats = c.args.colors.now} c.in-Some.is c.find_from.ensures t.ascending in
     omega (arith, found.within, t.words_long, t.floats_long)
-
-pub offset_bounds-part-j : goal.offset_bounds-part-j
-offset_bounds-part-j c = omega (arith, c.requires.1.segments_in, c.ranges)
 
 pub paint_own-painted-requires : goal.paint_own-painted-requires
 paint_own-painted-requires c =
     let a = c.args in
     let n = c.next_layer-next in
-    let found = at_place {floats = a.colors.now} c.in-At.is c.find_from.ensures c.requires.0.in_table.ascending in
+    let found = at_place {floats = a.colors.now} c.in-Some.is c.find_from.ensures c.requires.0.in_table.ascending in
     (light_is (table_of a.layers.now a.colors.now a.count) a.n a.ids.now a.covers.now a.part.now c.requires.1 n.result (n.ensures.stepped a.covers.now) n.ensures.moved c.requires.0.queued c.requires.0.walks c.incoming_cover-cover.ensures refl c.requires.2, c.requires.3, last_small c.requires.0.in_table n.result.id c.layer_at-layer.result (found.looked ∙ ap given (sym c.layer_at-layer.ensures)))
 
 pub overflow_add-p : goal.overflow_add-p
 overflow_add-p c =
-    let found = at_place {floats = c.args.colors.now} c.in-At.is c.find_from.ensures c.requires.0.in_table.ascending in
+    let found = at_place {floats = c.args.colors.now} c.in-Some.is c.find_from.ensures c.requires.0.in_table.ascending in
     omega (arith, found.within, c.ranges.count)
 
-pub step-requires : goal.step-requires
-step-requires c = omega (arith, c.requires.1.few, c.requires.1.carries_in, c.requires.1.segments_in, c.requires.0.walks.few)
-
-pub returns-in-At : goal.returns-in-At
-returns-in-At c =
+pub returns-in-Some : goal.returns-in-Some
+returns-in-Some c =
     let a = c.args in
     let n = c.next_layer-next in
-    let found = at_place {floats = a.colors.now} c.in-At.is c.find_from.ensures c.requires.0.in_table.ascending in
+    let found = at_place {floats = a.colors.now} c.in-Some.is c.find_from.ensures c.requires.0.in_table.ascending in
     paints_next (table_of a.layers.now a.colors.now a.count) a.n a.ids.now a.covers.now a.part.now c.requires.1 n.result (n.ensures.stepped a.covers.now) n.ensures.moved c.requires.0.queued c.requires.0.walks c.paint_own-painted.result
     c.step.ensures (found.looked ∙ ap given (sym c.layer_at-layer.ensures)) c.incoming_cover-cover.ensures refl c.needs_clip-needs.ensures c.paint_own-painted.ensures c.free_after-free_below.ensures
 
-pub returns-in-Absent : goal.returns-in-Absent
-returns-in-Absent c =
+pub returns-in-None : goal.returns-in-None
+returns-in-None c =
     let a = c.args in
     let n = c.next_layer-next in
-    let missing = at_none {floats = a.colors.now} c.in-Absent.is c.find_from.ensures in
+    let missing = at_none {floats = a.colors.now} c.in-None.is c.find_from.ensures in
     absurd (in_table (table_of a.layers.now a.colors.now a.count) a.n a.ids.now a.covers.now a.part.now c.requires.1 n.result (n.ensures.stepped a.covers.now) n.ensures.moved c.requires.2 missing.looked)

@@ -9,9 +9,6 @@ loop-octet-init c = mark_start
 pub overflow_mul-mark : goal.overflow_mul-mark
 overflow_mul-mark c = omega (arith, mark_small c.loop-octet.invariant c.loop-octet-test.true)
 
-pub is_used-requires : goal.is_used-requires
-is_used-requires c = omega (arith, c.loop-octet.invariant.reached)
-
 pub overflow_add-mark : goal.overflow_add-mark
 overflow_add-mark c =
     omega (arith, mark_small c.loop-octet.invariant c.loop-octet-test.true, bit_lt c.is_used.result)

@@ -3,6 +3,3 @@ use Rattle.mark.proofs.mark_of.Given as goal
 
 abbrev pub invariant-loop-octet : goal.invariant-loop-octet
 invariant-loop-octet l = Marking l.plane l.mark l.octet
-
-abbrev pub decreases-loop-octet : goal.decreases-loop-octet
-decreases-loop-octet l = l.octet

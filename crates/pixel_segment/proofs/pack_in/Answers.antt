@@ -1,10 +1,10 @@
 -- `pack_in` meets its contract: where every field holds its number, the number fits the type that `join` takes. Assumes nothing.
-use Rattle.std.specs.Prelude.{◌≡◌, ◌≤◌, ◌<◌}
+use Rattle.refusals.specs.declared.Refusal.TheVariants.{Fields}
+use Rattle.std.specs.Prelude.{◌≡◌, ◌≤◌, ◌<◌, Ok, Err}
 use Rattle.laws.proofs.Prelude.{sym, ◌∙◌, true, arith, ℤ, pos, nat_abs, w8, w16, w32, SFits, to_z-of_z, plus}
 use Rattle.laws.proofs.Prelude.{minus, sfits, unsigned, whole, added}
 use Rattle.pixel_segment.specs.Field.{widths_of}
 use Rattle.pixel_segment.specs.Pack.{stored_of, is_packable, FieldsInRange}
-use Rattle.pixel_segment.specs.declared.Packed.TheVariants.{Segment, FieldOutOfRange}
 use Rattle.pixel_segment.proofs.Ranges.{table_of, in_range_lem, wide, in_wide}
 use Rattle.pixel_segment.proofs.ReadBack.{packs}
 use Rattle.pixel_segment.proofs.pack_in.Goals as goal
@@ -51,7 +51,7 @@ pub returns-then-not-is_packable : goal.returns-then-not-is_packable
 returns-then-not-is_packable c =
     let a = c.args in
     packs (widths_of a.layout) (table_of a.layout)
-    a.layer_id a.tile_x a.tile_y a.local_x a.local_y a.double_area_multiplier a.cover FieldOutOfRange
+    a.layer_id a.tile_x a.tile_y a.local_x a.local_y a.double_area_multiplier a.cover (Err Fields)
     (rw (sym (judged (goal.at.returns-then-not-is_packable c).After-is_packable) ∙ c.if-not-is_packable.true))
 
 pub overflow_cast-layer_id : goal.overflow_cast-layer_id
@@ -89,7 +89,7 @@ returns c =
     let f = c.ranges in
     let h = held (goal.at.returns c).Else-not-is_packable in
     packs (widths_of a.layout) (table_of a.layout)
-    a.layer_id a.tile_x a.tile_y a.local_x a.local_y a.double_area_multiplier a.cover (Segment (record { 0 = c.join-word.result }))
+    a.layer_id a.tile_x a.tile_y a.local_x a.local_y a.double_area_multiplier a.cover (Ok (record { 0 = c.join-word.result }))
     (rw (
       accepted (goal.at.returns c).Else-not-is_packable,
       c.join-word.ensures,

@@ -10,10 +10,9 @@ use Rattle.cover_statements.specs.Mark.{mark_of}
 use Rattle.cover_statements.specs.Paint.{part_plane}
 use Rattle.cover_statements.specs.Plane.{coverages_of, exchange}
 use Rattle.cover_statements.specs.InnerWeighed.{weights_of, weights_plane}
-use Rattle.cover_statements.proofs.Paintings.{paint_heavy, paint_done}
+use Rattle.cover_statements.proofs.Paintings.{paint_done}
 use Rattle.cover_statements.proofs.Planes.{areas_length, areas_in_range, plane_of_areas}
 use Rattle.cover_statements.proofs.Weighings.{coverages_are}
-use Rattle.plane.proofs.LightCells.{no_segment}
 use Rattle.plane.proofs.paint_judged.Goals as goal
 use Rattle.plane.proofs.paint_judged.Goals.{Else-not-sum_areas}
 
@@ -33,27 +32,9 @@ plane_is t =
     ap (exchange nan 16) (coverages_are t.args.rule t.sum_areas.new.areas ∙ ap (coverages_of t.args.rule) (areas_are t))
     ∙ plane_of_areas cpu 16 t.args.rule (cover_at t.args.cover.covers) t.args.part.now nan
 
-pub returns-then-not-is_light : goal.returns-then-not-is_light
-returns-then-not-is_light c =
-    rw (no_segment c.args.part.now c.if-part-eq0.true) (paint_heavy c.requires.0 (sym c.is_light.ensures ∙ c.if-not-is_light.true))
-
-pub paint-requires : goal.paint-requires
-paint-requires c = (sym c.is_light.ensures ∙ c.if-not-is_light.false, c.requires.0)
-
-pub returns-then-part-eq0 : goal.returns-then-part-eq0
-returns-then-part-eq0 c =
-    rw (no_segment c.args.part.now c.if-part-eq0.true)
-    (paint_done c.requires.0 (sym c.is_light.ensures ∙ c.if-not-is_light.false) c.paint.ensures.0 c.paint.ensures.1)
-
 pub sum_areas-requires : goal.sum_areas-requires
 unfolding no_cells
 sum_areas-requires c = (refl, c.requires.1)
-
-pub returns-then-not-sum_areas : goal.returns-then-not-sum_areas
-returns-then-not-sum_areas c = paint_heavy c.requires.0 (sym c.sum_areas.ensures.light ∙ c.if-not-sum_areas.true)
-
-pub slice_bounds-paint-end : goal.slice_bounds-paint-end
-slice_bounds-paint-end c = sym (areas_long (goal.at.slice_bounds-paint-end c).Else-not-sum_areas)
 
 pub paint-requires-2 : goal.paint-requires-2
 paint-requires-2 c =

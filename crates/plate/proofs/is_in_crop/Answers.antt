@@ -1,5 +1,5 @@
 -- `is_in_crop` meets its contract. Assumes nothing.
 use Rattle.plate.proofs.is_in_crop.Goals as goal
 
-pub returns-in-Rows : goal.returns-in-Rows
-returns-in-Rows c = rw c.in-Rows.is
+pub returns-in-Some : goal.returns-in-Some
+returns-in-Some c = rw c.in-Some.is

@@ -4,23 +4,23 @@ use Rattle.laws.proofs.Prelude.{ap, sym, ◌∙◌}
 use Rattle.plate.specs.Print.{RowPrinting, row, printing_in, print_row, part_in}
 use Rattle.plate.proofs.Finding.{printed_inside}
 use Rattle.plate.proofs.to_print.Goals as goal
-use Rattle.plate.proofs.to_print.Goals.{In-Row}
+use Rattle.plate.proofs.to_print.Goals.{In-Some}
 
 -- what is printed of the row
-printed : (c : In-Row) → row c.in-Row.part.start c.in-Row.part.end ≡ print_row c.args.crop c.args.j c.args.segments.now
-printed c = sym (ap printing_in c.in-Row.is) ∙ c.print_row.ensures
+printed : (c : In-Some) → row c.in-Some.part.start c.in-Some.part.end ≡ print_row c.args.crop c.args.j c.args.segments.now
+printed c = sym (ap printing_in c.in-Some.is) ∙ c.print_row.ensures
 
 pub slice_of-requires : goal.slice_of-requires
 slice_of-requires c =
     let s = c.args in
-    printed_inside s.crop s.j s.segments.now c.in-Row.part.start c.in-Row.part.end (printed c)
+    printed_inside s.crop s.j s.segments.now c.in-Some.part.start c.in-Some.part.end (printed c)
 
-pub returns-in-Row : goal.returns-in-Row
-returns-in-Row c =
+pub returns-in-Some : goal.returns-in-Some
+returns-in-Some c =
     let l = c.args.segments.now in
-    c.slice_of.ensures ∙ ap (λ (p : RowPrinting). part_in p l) (printed (goal.at.returns-in-Row c).In-Row)
+    c.slice_of.ensures ∙ ap (λ (p : RowPrinting). part_in p l) (printed (goal.at.returns-in-Some c).In-Some)
 
-pub returns-in-Skipped : goal.returns-in-Skipped
-returns-in-Skipped c =
+pub returns-in-None : goal.returns-in-None
+returns-in-None c =
     let l = c.args.segments.now in
-    ap (λ (p : RowPrinting). part_in p l) (sym (ap printing_in c.in-Skipped.is) ∙ c.print_row.ensures)
+    ap (λ (p : RowPrinting). part_in p l) (sym (ap printing_in c.in-None.is) ∙ c.print_row.ensures)

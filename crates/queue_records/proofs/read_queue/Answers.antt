@@ -7,7 +7,7 @@ use Rattle.queue_records.proofs.read_queue.Goals as goal
 pub loop-i-init : goal.loop-i-init
 loop-i-init c =
     let a = c.args in
-    (omega arith, no_ids a.queue.now a.ids.now a.covers.now c.count_readable-n.result, no_covers a.queue.now a.ids.now a.covers.now c.count_readable-n.result)
+    (no_ids a.queue.now a.ids.now a.covers.now c.count_readable-n.result, no_covers a.queue.now a.ids.now a.covers.now c.count_readable-n.result)
 
 pub loop-i-preserved : goal.loop-i-preserved
 loop-i-preserved c =
@@ -20,14 +20,13 @@ loop-i-preserved c =
       i = l.i;
       ids = l.ids;
       covers = l.covers;
-      within = l.invariant.0;
-      ids_are = l.invariant.1;
-      covers_are = l.invariant.2;
+      within = omega arith;
+      ids_are = l.invariant.0;
+      covers_are = l.invariant.1;
       ids_same = l.auto.ids;
       covers_same = l.auto.covers;
     } in
     let wrote = c.put_record.ensures in (
-      omega arith,
       more_ids _ _ _ _ fits s c.loop-i-test.true c.record_at.result c.record_at.ensures wide _ _ wrote,
       more_covers _ _ _ _ fits s c.loop-i-test.true c.record_at.result c.record_at.ensures wide _ _ wrote,
     )

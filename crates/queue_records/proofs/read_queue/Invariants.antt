@@ -1,4 +1,4 @@
-use Rattle.std.specs.Prelude.{◌≡◌, ◌-◌, ◌≤◌}
+use Rattle.std.specs.Prelude.{◌≡◌}
 use Rattle.laws.proofs.Prelude.{take, over}
 use Rattle.queue_records.specs.Records.{record_ids, record_covers}
 use Rattle.queue_records.proofs.read_queue.Given as goal
@@ -6,7 +6,4 @@ use Rattle.queue_records.proofs.read_queue.Given as goal
 -- the first i records lie over the front of the two columns
 abbrev pub invariant-loop-i : goal.invariant-loop-i
 invariant-loop-i l =
-    (l.i ≤ l.n) × (l.ids ≡ over (record_ids (take l.i l.queue)) l.fn.ids) × (l.covers ≡ over (record_covers (take l.i l.queue)) l.fn.covers)
-
-abbrev pub decreases-loop-i : goal.decreases-loop-i
-decreases-loop-i l = l.n - l.i
+    (l.ids ≡ over (record_ids (take l.i l.queue)) l.fn.ids) × (l.covers ≡ over (record_covers (take l.i l.queue)) l.fn.covers)

@@ -1,10 +1,12 @@
 // W-214, one language leaves another's layers be: two rows share the segments of the French layer 5 and differ in their
 // German layers, 3 in one and 7 in the other. Each is opened and worked over tiles 0 and 1, and the French layer
 // painted.
+ghost use Rattle.refusals.specs.Refusal.{given_or_refused};
+
 use cached_tile::CachedTile;
 use cached_tile::kept::Kept;
-use layer_workbench::PreviousClear;
-use row_statements::{Opened, PaintAnswer, RowState, WorkAnswer};
+use refusals::Refusal;
+use row_statements::{RowState, TileDone};
 use std::io;
 use styling::Color;
 
@@ -15,17 +17,17 @@ struct Step {
     taken: bool,
 }
 
-fn is_done(answer: WorkAnswer) -> bool {
+fn is_done(answer: Result<TileDone, Refusal>) -> bool {
     match answer {
-        WorkAnswer::Refused(_) => false,
-        WorkAnswer::Done(_) => true,
+        Err(_) => false,
+        Ok(_) => true,
     }
 }
 
-fn is_marked(answer: PaintAnswer) -> bool {
+fn is_marked(answer: Result<u32, Refusal>) -> bool {
     match answer {
-        PaintAnswer::Mark(_) => true,
-        PaintAnswer::Refused(_) => false,
+        Ok(_) => true,
+        Err(_) => false,
     }
 }
 
@@ -69,7 +71,7 @@ fn paint_tile(
         2,
         kept,
         clear,
-        PreviousClear::Absent,
+        None,
         ids,
         covers,
         next_ids,
@@ -92,11 +94,11 @@ fn paint_tile(
         plane,
     );
     let work_answer = worked.answer;
-    let paint_answer = painted.answer;
+    let given_or_refused = painted.answer;
     let past = painted.state;
     Step {
         state: past,
-        taken: step.taken & is_done(work_answer) & is_marked(paint_answer),
+        taken: step.taken & is_done(work_answer) & is_marked(given_or_refused),
     }
 }
 
@@ -108,8 +110,8 @@ fn paint_both(row: &[u64], layers: &[u32], first: &mut [f32], second: &mut [f32]
     let mut next_ids = [0u32; 256];
     let mut next_covers = [0i8; 4096];
     match row_opening::open_tile_row(0, 0, 2, row, layers, &colors, 2, &mut ids, &mut covers) {
-        Opened::Refused(_) => false,
-        Opened::Row(state) => {
+        Err(_) => false,
+        Ok(state) => {
             let opened = Step {
                 state: state,
                 taken: true,
@@ -141,19 +143,6 @@ fn paint_both(row: &[u64], layers: &[u32], first: &mut [f32], second: &mut [f32]
     }
 }
 
-fn is_same(a: &[f32], b: &[f32]) -> bool {
-    if a.len() != b.len() {
-        return false;
-    }
-    let mut same = true;
-    let mut i: usize = 0;
-    while i < a.len() {
-        same = same & (a[i] == b[i]);
-        i += 1;
-    }
-    same
-}
-
 // Whether the French layer looks the same beside layer 3 and in the other row, which has layer 7.
 fn is_unmoved(other: &[u64]) -> bool {
     let row: [u64; 5] = [
@@ -171,7 +160,7 @@ fn is_unmoved(other: &[u64]) -> bool {
     let mut b1 = [8.0f32; 256];
     let painted = paint_both(&row, &layers, &mut a0, &mut a1)
         & paint_both(other, &others, &mut b0, &mut b1);
-    painted & is_same(&a0, &b0) & is_same(&a1, &b1)
+    painted & (a0 == b0) & (a1 == b1)
 }
 
 pub fn print_cases(rt: &impl Print) -> io::Result<()> {

@@ -1,35 +1,24 @@
 // W-209, planes row by row: two parts painted into a plane, by NonZero, with the numbers at their places and the mark.
+ghost use Rattle.std.specs.Prelude.{◌≤◌};
+
 use cover::Cover;
-use cover_statements::painting::Painted;
 use std::io;
 use styling::FillRule;
 
 // The mark, or 0 after a refusal.
 fn paint(word: u64, cover: i8, plane: &mut [f32]) -> u32 {
     let part = [word; 1];
-    match plane::paint_part(
-        &part,
-        Cover {
-            covers: [cover; 16],
-        },
-        FillRule::NonZero,
-        plane,
-    ) {
-        Painted::Mark(mark) => mark,
-        Painted::PlaneTooShort => 0,
-        Painted::CoverTooLarge => 0,
-    }
+    let incoming = Cover {
+        covers: [cover; 16],
+    };
+    plane::paint_part(&part, incoming, FillRule::NonZero, plane).unwrap_or(0)
 }
 
 // Whether all numbers from one place up to another are this one.
-fn are_all(plane: &[f32; 256], from: usize, to: usize, number: f32) -> bool {
-    let mut ok = true;
-    let mut k = 0;
-    while k < 256 {
-        ok = ok & ((k < from) | (to <= k) | (plane[k] == number));
-        k += 1;
-    }
-    ok
+fn are_all(plane: &[f32; 256], from: usize, to: usize, number: f32) -> bool
+    requires { (from ≤ to) × (to ≤ 256) }
+{
+    plane[from..to].iter().all(|coverage| *coverage == number)
 }
 
 // A segment of cover 16 at column 8 of row 9, and nothing comes in: the row is covered from its column on.

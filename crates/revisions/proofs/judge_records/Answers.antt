@@ -1,18 +1,10 @@
 -- `judge_records` meets its contract: the answers of `Verdicts`, in the order of the tests. Assumes nothing.
-use Rattle.laws.proofs.Prelude.{sym, ◌∙◌, arith, lt-ltb, le-ltb}
+use Rattle.laws.proofs.Prelude.{sym, ◌∙◌, lt-ltb, le-ltb}
 use Rattle.revision_statements.proofs.Verdicts.{says_4, says_15, says_1, says_pass}
 use Rattle.revisions.proofs.judge_records.Goals as goal
 
 pub returns-then-not-are_good : goal.returns-then-not-are_good
 returns-then-not-are_good c = says_4 _ _ _ c.sent_room-n.ensures _ _ (sym (c.are_good.ensures _) ∙ c.if-not-are_good.true)
-
-pub count-counted-requires : goal.count-counted-requires
-count-counted-requires c =
-    record {
-      long = omega (arith, c.sent_room-n.ensures);
-      words = λ i. (c.type_inv.records i).fits;
-      good = λ floats. sym (c.are_good.ensures floats) ∙ c.if-not-are_good.false;
-    }
 
 pub returns-then-counted-n : goal.returns-then-counted-n
 returns-then-counted-n c =
@@ -32,6 +24,3 @@ returns c =
     let good = sym (c.are_good.ensures _) ∙ c.if-not-are_good.false in
     let single = counts.twins _ ∙ le-ltb _ _ c.if-counted-n.false in
     says_pass _ _ _ c.sent_room-n.ensures _ _ good single (counts.stand _ single) (sym c.is_short.ensures ∙ c.if-is_short.false)
-
-pub are_good-requires : goal.are_good-requires
-are_good-requires c = omega (arith, c.sent_room-n.ensures)

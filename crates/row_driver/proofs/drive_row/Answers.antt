@@ -19,17 +19,17 @@ due-is c = rw (to_z-of_z c.ranges.from, to_z-of_z c.ranges.to, to_z-of_z c.range
 pub drive_open-requires : goal.drive_open-requires
 unfolding called
 drive_open-requires c =
-    let g = rw (to_z-of_z c.ranges.tile_y, to_z-of_z c.ranges.from, to_z-of_z c.ranges.to, c.in-Row.is) at c.open_tile_row.ensures in
+    let g = rw (to_z-of_z c.ranges.tile_y, to_z-of_z c.ranges.from, to_z-of_z c.ranges.to, c.in-Ok.is) at c.open_tile_row.ensures in
     rw (due-is (goal.at.drive_open-requires c).After-due_tiles-n) (opens (called (goal.at.drive_open-requires c).Start) c.args.tiles c.args.lines.now (record { small = λ i. (c.type_inv.row i).fits }) g (search rules))
 
-pub returns-in-Refused : goal.returns-in-Refused
+pub returns-in-Err : goal.returns-in-Err
 unfolding called
-returns-in-Refused c =
-    let g = rw (to_z-of_z c.ranges.tile_y, to_z-of_z c.ranges.from, to_z-of_z c.ranges.to, c.in-Refused.is) at c.open_tile_row.ensures in
-    not_opened (called (goal.at.returns-in-Refused c).Start) c.args.tiles c.args.lines.now g
+returns-in-Err c =
+    let g = rw (to_z-of_z c.ranges.tile_y, to_z-of_z c.ranges.from, to_z-of_z c.ranges.to, c.in-Err.is) at c.open_tile_row.ensures in
+    not_opened (called (goal.at.returns-in-Err c).Start) c.args.tiles c.args.lines.now g
 
-pub returns-in-Row : goal.returns-in-Row
+pub returns-in-Ok : goal.returns-in-Ok
 unfolding called
-returns-in-Row c =
-    let g = rw (to_z-of_z c.ranges.tile_y, to_z-of_z c.ranges.from, to_z-of_z c.ranges.to, c.in-Row.is) at c.open_tile_row.ensures in
-    driven (called (goal.at.returns-in-Row c).Start) c.args.tiles c.args.lines.now (record { small = λ i. (c.type_inv.row i).fits }) g (rw (due-is (goal.at.returns-in-Row c).After-due_tiles-n) at c.drive_open.ensures)
+returns-in-Ok c =
+    let g = rw (to_z-of_z c.ranges.tile_y, to_z-of_z c.ranges.from, to_z-of_z c.ranges.to, c.in-Ok.is) at c.open_tile_row.ensures in
+    driven (called (goal.at.returns-in-Ok c).Start) c.args.tiles c.args.lines.now (record { small = λ i. (c.type_inv.row i).fits }) g (rw (due-is (goal.at.returns-in-Ok c).After-due_tiles-n) at c.drive_open.ensures)

@@ -1,8 +1,7 @@
 -- `paint_layer` meets its contract. Assumes nothing.
-use Rattle.std.specs.Prelude.{◌≡◌, Float}
+use Rattle.refusals.specs.declared.Refusal.{Refusal}
+use Rattle.std.specs.Prelude.{◌≡◌, Float, Result, Ok}
 use Rattle.laws.proofs.Prelude.{List, refl, sym, ap, ◌∙◌, arith, w16, SFits, to_z-of_z, sfits, whole}
-use Rattle.refusals.specs.declared.Verdict.{Verdict}
-use Rattle.refusals.specs.declared.Verdict.TheVariants.{Pass}
 use Rattle.refusals.specs.Refusal.{pass, judgement_in}
 use Rattle.refusals.proofs.Judging.{both_passed}
 use Rattle.layer_table.proofs.Judging as judged
@@ -23,7 +22,7 @@ unfolding called
 told c = c.judge_painting.ensures ∙ rw (to_z-of_z c.ranges.tile)
 
 -- where it passes
-passes : (k : PaintCall) (plane : List Float) {v : Verdict} → judgement_in v ≡ paint_verdict k plane → v ≡ Pass → paint_verdict k plane ≡ pass
+passes : (k : PaintCall) (plane : List Float) {v : Result Unit Refusal} → judgement_in v ≡ paint_verdict k plane → v ≡ (Ok tt) → paint_verdict k plane ≡ pass
 passes k plane t e = sym t ∙ ap judgement_in e
 
 known : (k : PaintCall) (plane : List Float) → paint_verdict k plane ≡ pass → Called k plane × LayerPassed (layers_of k.table) (taken_for k) (part_for k) k.layer
@@ -41,36 +40,36 @@ pub overflow_cast-tile : goal.overflow_cast-tile
 unfolding called
 overflow_cast-tile c =
     let a = goal.at.overflow_cast-tile c in
-    rw (to_z-of_z c.ranges.tile) (tile_fits (called a.Start) c.args.plane.now (passes (called a.Start) c.args.plane.now (told a.After-judge_painting) c.in-Pass.is))
+    rw (to_z-of_z c.ranges.tile) (tile_fits (called a.Start) c.args.plane.now (passes (called a.Start) c.args.plane.now (told a.After-judge_painting) c.in-Ok.is))
 
 pub record_of-found-requires : goal.record_of-found-requires
 unfolding called
 record_of-found-requires c =
     let a = goal.at.record_of-found-requires c in
-    judged.table (known (called a.Start) c.args.plane.now (passes (called a.Start) c.args.plane.now (told a.After-judge_painting) c.in-Pass.is)).0.in_table
+    judged.table (known (called a.Start) c.args.plane.now (passes (called a.Start) c.args.plane.now (told a.After-judge_painting) c.in-Ok.is)).0.in_table
 
 pub paint-requires : goal.paint-requires
 unfolding called
 paint-requires c =
     let a = goal.at.paint-requires c in
-    let e = passes (called a.Start) c.args.plane.now (told a.After-judge_painting) c.in-Pass.is in
+    let e = passes (called a.Start) c.args.plane.now (told a.After-judge_painting) c.in-Ok.is in
     let p = known (called a.Start) c.args.plane.now e in
     let part = rw (to_z-of_z c.ranges.tile, to_z-of_z (tile_fits (called a.Start) c.args.plane.now e)) at c.in_tile-part.ensures in
     rw (part, c.record_of-found.ensures) (ready (called a.Start) c.args.plane.now p.0 (record { small = λ i. (c.type_inv.row i).fits }), p.1.found, p.1.light)
 
-pub returns-in-Refuse : goal.returns-in-Refuse
+pub returns-in-Err : goal.returns-in-Err
 unfolding called
-returns-in-Refuse c =
-    let a = goal.at.returns-in-Refuse c in
+returns-in-Err c =
+    let a = goal.at.returns-in-Err c in
     let k = called a.Start in
-    paints_refused (paint_says (layers_of k.table) (taken_for k) (part_for k) k.layer k.state.clip) c.args.state (sym (told a.After-judge_painting) ∙ ap judgement_in c.in-Refuse.is) refl
+    paints_refused (paint_says (layers_of k.table) (taken_for k) (part_for k) k.layer k.state.clip) c.args.state (sym (told a.After-judge_painting) ∙ ap judgement_in c.in-Err.is) refl
 
-pub returns-in-Pass : goal.returns-in-Pass
+pub returns-in-Ok : goal.returns-in-Ok
 unfolding called
-returns-in-Pass c =
-    let a = goal.at.returns-in-Pass c in
+returns-in-Ok c =
+    let a = goal.at.returns-in-Ok c in
     let k = called a.Start in
-    let e = passes (called a.Start) c.args.plane.now (told a.After-judge_painting) c.in-Pass.is in
+    let e = passes (called a.Start) c.args.plane.now (told a.After-judge_painting) c.in-Ok.is in
     let part = rw (to_z-of_z c.ranges.tile, to_z-of_z (tile_fits k c.args.plane.now e)) at c.in_tile-part.ensures in
     rw c.answered.ensures
     (paints_done (layers_of k.table) (taken_for k) (part_for k) k.layer c.args.state e refl

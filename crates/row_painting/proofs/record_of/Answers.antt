@@ -5,14 +5,14 @@ use Rattle.row_painting.proofs.record_of.Goals as goal
 
 pub layer_at-requires : goal.layer_at-requires
 layer_at-requires c =
-    let found = at_place {floats = c.args.colors.now} c.in-At.is c.find.ensures c.requires.ascending in
+    let found = at_place {floats = c.args.colors.now} c.in-Some.is c.find.ensures c.requires.ascending in
     omega (arith, found.within, c.requires.words_long, c.requires.floats_long)
 
-pub returns-in-At : goal.returns-in-At
-returns-in-At c =
-    let found = at_place {floats = c.args.colors.now} c.in-At.is c.find.ensures c.requires.ascending in
+pub returns-in-Some : goal.returns-in-Some
+returns-in-Some c =
+    let found = at_place {floats = c.args.colors.now} c.in-Some.is c.find.ensures c.requires.ascending in
     rw (found.looked, c.layer_at.ensures)
 
-pub returns-in-Absent : goal.returns-in-Absent
-returns-in-Absent c =
-    rw (at_none {floats = c.args.colors.now} c.in-Absent.is c.find.ensures).looked
+pub returns-in-None : goal.returns-in-None
+returns-in-None c =
+    rw (at_none {floats = c.args.colors.now} c.in-None.is c.find.ensures).looked

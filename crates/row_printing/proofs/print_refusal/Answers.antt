@@ -4,4 +4,4 @@ use Rattle.row_printing.proofs.print_refusal.Goals as goal
 
 pub returns : goal.returns
 returns c =
-    placed_in c.print_refusal.ensures 19 c.place_or.ensures (refusal_long c.args.number c.ranges.number) c.requires
+    placed_in c.print_refusal.ensures 19 c.unwrap_or.ensures (refusal_long c.args.number c.ranges.number) c.requires

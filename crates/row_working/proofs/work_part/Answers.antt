@@ -26,27 +26,27 @@ pub work-requires : goal.work-requires
 work-requires c =
     let p = c.requires in
     let told = c.judge_list-judged.ensures in
-    let passed = ap judgement_in c.in-Pass.is in
+    let passed = ap judgement_in c.in-Ok.is in
     let l = list_passed _ _ (sym told.judged.verdict ∙ passed) in
     (p.walks, p.covers_long, p.in_table, p.rooms, told.carries passed, told.judged.listed, omega (arith, told.judged.listed, l.few))
 
 pub done-requires : goal.done-requires
 done-requires c = c.requires.next_low
 
-pub returns-in-Refuse : goal.returns-in-Refuse
+pub returns-in-Err : goal.returns-in-Err
 unfolding called lent_to
-returns-in-Refuse c =
+returns-in-Err c =
     let told = c.judge_list-judged.ensures.judged.verdict in
-    record { gives = λ tile row e. refused_by (called (goal.at.returns-in-Refuse c).Start tile row) (lent_to (goal.at.returns-in-Refuse c).Start) (sym (rw e at told) ∙ ap judgement_in c.in-Refuse.is) refl c.refuse.ensures }
+    record { gives = λ tile row e. refused_by (called (goal.at.returns-in-Err c).Start tile row) (lent_to (goal.at.returns-in-Err c).Start) (sym (rw e at told) ∙ ap judgement_in c.in-Err.is) refl c.refuse.ensures }
 
-pub returns-in-Pass : goal.returns-in-Pass
+pub returns-in-Ok : goal.returns-in-Ok
 unfolding called lent_to
-returns-in-Pass c =
+returns-in-Ok c =
     let told = c.judge_list-judged.ensures.judged.verdict in
     let w = c.work.ensures in
     record {
       gives =
           λ tile row e.
-          done_by (called (goal.at.returns-in-Pass c).Start tile row) (lent_to (goal.at.returns-in-Pass c).Start) c.args.state c.args.part.now e (sym (rw e at told) ∙ ap judgement_in c.in-Pass.is) refl c.done.ensures
+          done_by (called (goal.at.returns-in-Ok c).Start tile row) (lent_to (goal.at.returns-in-Ok c).Start) c.args.state c.args.part.now e (sym (rw e at told) ∙ ap judgement_in c.in-Ok.is) refl c.done.ensures
           w.answer w.list w.queue;
     }

@@ -1,8 +1,7 @@
 -- `work_tile` meets its contract. Assumes nothing.
-use Rattle.std.specs.Prelude.{◌≡◌}
+use Rattle.refusals.specs.declared.Refusal.{Refusal}
+use Rattle.std.specs.Prelude.{◌≡◌, Result, Ok}
 use Rattle.laws.proofs.Prelude.{refl, sym, ap, ◌∙◌, to_z-of_z}
-use Rattle.refusals.specs.declared.Verdict.{Verdict}
-use Rattle.refusals.specs.declared.Verdict.TheVariants.{Pass}
 use Rattle.refusals.specs.Refusal.{Judgement, pass, judgement_in, and_then}
 use Rattle.row_statements.specs.Lent.{columns, list_columns, lent_table}
 use Rattle.row_statements.specs.State.{state_in}
@@ -29,7 +28,7 @@ told c =
     (rw (to_z-of_z c.ranges.tile, c.is_list_short.ensures, c.is_short-3.ensures, c.is_short-2.ensures, c.is_short.ensures) at c.judge_work.ensures)
     ∙ judged_args (called c.before.before.before.before.before.before.before.before.before.before.before.before.before.before) (lent_to c.before.before.before.before.before.before.before.before.before.before.before.before.before.before)
 
-passes : (k : WorkCall) (l : WorkLent) {v : Verdict} → judgement_in v ≡ args_verdict k l → v ≡ Pass → args_verdict k l ≡ pass
+passes : (k : WorkCall) (l : WorkLent) {v : Result Unit Refusal} → judgement_in v ≡ args_verdict k l → v ≡ (Ok tt) → args_verdict k l ≡ pass
 passes k l t e = sym t ∙ ap judgement_in e
 
 pub work_judged-requires : goal.work_judged-requires
@@ -39,18 +38,18 @@ work_judged-requires c =
     let k = called a.Start in
     let l = lent_to a.Start in
     rw (to_z-of_z c.ranges.tile)
-    (judged k l (record { small = λ i. (c.type_inv.row i).fits }) (args_passed k l (passes k l (told a.After-judge_work) c.in-Pass.is)))
+    (judged k l (record { small = λ i. (c.type_inv.row i).fits }) (args_passed k l (passes k l (told a.After-judge_work) c.in-Ok.is)))
 
-pub returns-in-Refuse : goal.returns-in-Refuse
+pub returns-in-Err : goal.returns-in-Err
 unfolding called lent_to
-returns-in-Refuse c =
-    let a = goal.at.returns-in-Refuse c in
+returns-in-Err c =
+    let a = goal.at.returns-in-Err c in
     let k = called a.Start in
-    refused_by k (lent_to a.Start) (ap (λ (v : Judgement). and_then v (layers_verdict k)) (sym (told a.After-judge_work) ∙ ap judgement_in c.in-Refuse.is)) refl c.refuse.ensures
+    refused_by k (lent_to a.Start) (ap (λ (v : Judgement). and_then v (layers_verdict k)) (sym (told a.After-judge_work) ∙ ap judgement_in c.in-Err.is)) refl c.refuse.ensures
 
-pub returns-in-Pass : goal.returns-in-Pass
+pub returns-in-Ok : goal.returns-in-Ok
 unfolding called lent_to
-returns-in-Pass c =
-    let a = goal.at.returns-in-Pass c in
+returns-in-Ok c =
+    let a = goal.at.returns-in-Ok c in
     let given = rw (to_z-of_z c.ranges.tile) at c.work_judged.ensures in
-    rw (passes (called a.Start) (lent_to a.Start) (told a.After-judge_work) c.in-Pass.is) given
+    rw (passes (called a.Start) (lent_to a.Start) (told a.After-judge_work) c.in-Ok.is) given

@@ -1,13 +1,9 @@
 -- `spread` meets its contract. Assumes nothing.
 use Rattle.std.specs.Prelude.{◌+◌, ◌*◌}
-use Rattle.laws.proofs.Prelude.{refl, ◌∙◌, arith, eq-eqb, ne_eqb, to_z-of_z, w16, kept}
+use Rattle.laws.proofs.Prelude.{◌∙◌, arith, ne_eqb, to_z-of_z, w16, kept}
 use Rattle.cover_statements.specs.Cover.{cover_at}
-use Rattle.segment_set_statements.proofs.Spreading.{spread_start, spread_next, spread_end}
+use Rattle.segment_set_statements.proofs.Spreading.{spread_next, spread_end}
 use Rattle.segment_effect.proofs.spread.Goals as goal
-
-pub loop-column-init : goal.loop-column-init
-loop-column-init c =
-    (spread_start (omega arith) (omega arith) (omega arith), rw (eq-eqb c.args.x c.args.x refl))
 
 pub loop-column-preserved : goal.loop-column-preserved
 loop-column-preserved c =
@@ -18,9 +14,6 @@ loop-column-preserved c =
           ∙ rw (kept w16 (cover_at c.loop-column.areas (c.loop-column.column * 16 + c.args.y)) (omega arith), c.loop-column.invariant.1) at c.add_area.ensures),
       rw (ne_eqb x (c.loop-column.column + 1) (λ e. omega arith)),
     )
-
-pub shape_of-areas : goal.shape_of-areas
-shape_of-areas c = c.loop-column.invariant.0.long
 
 pub returns : goal.returns
 returns c =

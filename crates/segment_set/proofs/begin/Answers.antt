@@ -19,22 +19,22 @@ pub begin_with-requires : goal.begin_with-requires
 unfolding called
 begin_with-requires c =
     rw (to_z-of_z c.ranges.tile_x, to_z-of_z c.ranges.tile_y)
-    (sym (told (goal.at.begin_with-requires c).After-judge_beginning) ∙ ap judgement_in c.in-Pass.is)
+    (sym (told (goal.at.begin_with-requires c).After-judge_beginning) ∙ ap judgement_in c.in-Ok.is)
 
-pub returns-in-Refuse : goal.returns-in-Refuse
+pub returns-in-Err : goal.returns-in-Err
 unfolding called
-returns-in-Refuse c =
-    let e = sym (told (goal.at.returns-in-Refuse c).After-judge_beginning) ∙ ap judgement_in c.in-Refuse.is in
+returns-in-Err c =
+    let e = sym (told (goal.at.returns-in-Err c).After-judge_beginning) ∙ ap judgement_in c.in-Err.is in
     record {
       answer = sym e;
-      leaves = ap (λ (r : SegmentSet). state r c.args.slots.now c.args.areas.now) c.empty_set.ensures ∙ sym (ap (λ (j : Judgement). settled j (fresh_state (called (goal.at.returns-in-Refuse c).After-judge_beginning) c.args.slots.now c.args.areas.now) (state nothing c.args.slots.now c.args.areas.now)) e);
+      leaves = ap (λ (r : SegmentSet). state r c.args.slots.now c.args.areas.now) c.empty_set.ensures ∙ sym (ap (λ (j : Judgement). settled j (fresh_state (called (goal.at.returns-in-Err c).After-judge_beginning) c.args.slots.now c.args.areas.now) (state nothing c.args.slots.now c.args.areas.now)) e);
     }
 
-pub returns-in-Pass : goal.returns-in-Pass
+pub returns-in-Ok : goal.returns-in-Ok
 unfolding called
-returns-in-Pass c =
-    let e = sym (told (goal.at.returns-in-Pass c).After-judge_beginning) ∙ ap judgement_in c.in-Pass.is in
+returns-in-Ok c =
+    let e = sym (told (goal.at.returns-in-Ok c).After-judge_beginning) ∙ ap judgement_in c.in-Ok.is in
     record {
       answer = sym e;
-      leaves = rw (to_z-of_z c.ranges.tile_x, to_z-of_z c.ranges.tile_y) at c.begin_with.ensures ∙ sym (ap (λ (j : Judgement). settled j (fresh_state (called (goal.at.returns-in-Pass c).After-judge_beginning) c.args.slots.now c.args.areas.now) (state nothing c.args.slots.now c.args.areas.now)) e);
+      leaves = rw (to_z-of_z c.ranges.tile_x, to_z-of_z c.ranges.tile_y) at c.begin_with.ensures ∙ sym (ap (λ (j : Judgement). settled j (fresh_state (called (goal.at.returns-in-Ok c).After-judge_beginning) c.args.slots.now c.args.areas.now) (state nothing c.args.slots.now c.args.areas.now)) e);
     }

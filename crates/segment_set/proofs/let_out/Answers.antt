@@ -20,16 +20,16 @@ pub remove-requires : goal.remove-requires
 unfolding called
 remove-requires c =
     let_ready c.args.set c.args.word c.args.slots.now c.args.areas.now c.held_count-held.ensures c.find-place.ensures
-    (sym (told (goal.at.remove-requires c).After-judge_letting) ∙ ap judgement_in c.in-Pass.is)
+    (sym (told (goal.at.remove-requires c).After-judge_letting) ∙ ap judgement_in c.in-Ok.is)
 
-pub returns-in-Refuse : goal.returns-in-Refuse
+pub returns-in-Err : goal.returns-in-Err
 unfolding called
-returns-in-Refuse c =
-    let e = sym (told (goal.at.returns-in-Refuse c).After-judge_letting) ∙ ap judgement_in c.in-Refuse.is in
-    record { answer = sym e; leaves = sym (ap (λ (j : Judgement). settled j (let_out (called (goal.at.returns-in-Refuse c).After-judge_letting) c.args.word) (called (goal.at.returns-in-Refuse c).After-judge_letting)) e) }
+returns-in-Err c =
+    let e = sym (told (goal.at.returns-in-Err c).After-judge_letting) ∙ ap judgement_in c.in-Err.is in
+    record { answer = sym e; leaves = sym (ap (λ (j : Judgement). settled j (let_out (called (goal.at.returns-in-Err c).After-judge_letting) c.args.word) (called (goal.at.returns-in-Err c).After-judge_letting)) e) }
 
-pub returns-in-Pass : goal.returns-in-Pass
+pub returns-in-Ok : goal.returns-in-Ok
 unfolding called
-returns-in-Pass c =
-    let e = sym (told (goal.at.returns-in-Pass c).After-judge_letting) ∙ ap judgement_in c.in-Pass.is in
-    record { answer = sym e; leaves = c.remove.ensures ∙ sym (ap (λ (j : Judgement). settled j (let_out (called (goal.at.returns-in-Pass c).After-judge_letting) c.args.word) (called (goal.at.returns-in-Pass c).After-judge_letting)) e) }
+returns-in-Ok c =
+    let e = sym (told (goal.at.returns-in-Ok c).After-judge_letting) ∙ ap judgement_in c.in-Ok.is in
+    record { answer = sym e; leaves = c.remove.ensures ∙ sym (ap (λ (j : Judgement). settled j (let_out (called (goal.at.returns-in-Ok c).After-judge_letting) c.args.word) (called (goal.at.returns-in-Ok c).After-judge_letting)) e) }

@@ -17,17 +17,17 @@ told c = c.judge_taking.ensures
 pub add-requires : goal.add-requires
 unfolding called
 add-requires c =
-    let p = take_passed (called (goal.at.add-requires c).After-judge_taking) c.args.word (sym (told (goal.at.add-requires c).After-judge_taking) ∙ ap judgement_in c.in-Pass.is) in
+    let p = take_passed (called (goal.at.add-requires c).After-judge_taking) c.args.word (sym (told (goal.at.add-requires c).After-judge_taking) ∙ ap judgement_in c.in-Ok.is) in
     record { room = p.room; free = p.free; small = p.small }
 
-pub returns-in-Refuse : goal.returns-in-Refuse
+pub returns-in-Err : goal.returns-in-Err
 unfolding called
-returns-in-Refuse c =
-    let e = sym (told (goal.at.returns-in-Refuse c).After-judge_taking) ∙ ap judgement_in c.in-Refuse.is in
-    record { answer = sym e; leaves = sym (ap (λ (j : Judgement). settled j (taken_in (called (goal.at.returns-in-Refuse c).After-judge_taking) c.args.word) (called (goal.at.returns-in-Refuse c).After-judge_taking)) e) }
+returns-in-Err c =
+    let e = sym (told (goal.at.returns-in-Err c).After-judge_taking) ∙ ap judgement_in c.in-Err.is in
+    record { answer = sym e; leaves = sym (ap (λ (j : Judgement). settled j (taken_in (called (goal.at.returns-in-Err c).After-judge_taking) c.args.word) (called (goal.at.returns-in-Err c).After-judge_taking)) e) }
 
-pub returns-in-Pass : goal.returns-in-Pass
+pub returns-in-Ok : goal.returns-in-Ok
 unfolding called
-returns-in-Pass c =
-    let e = sym (told (goal.at.returns-in-Pass c).After-judge_taking) ∙ ap judgement_in c.in-Pass.is in
-    record { answer = sym e; leaves = c.add.ensures ∙ sym (ap (λ (j : Judgement). settled j (taken_in (called (goal.at.returns-in-Pass c).After-judge_taking) c.args.word) (called (goal.at.returns-in-Pass c).After-judge_taking)) e) }
+returns-in-Ok c =
+    let e = sym (told (goal.at.returns-in-Ok c).After-judge_taking) ∙ ap judgement_in c.in-Ok.is in
+    record { answer = sym e; leaves = c.add.ensures ∙ sym (ap (λ (j : Judgement). settled j (taken_in (called (goal.at.returns-in-Ok c).After-judge_taking) c.args.word) (called (goal.at.returns-in-Ok c).After-judge_taking)) e) }

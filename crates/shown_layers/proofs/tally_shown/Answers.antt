@@ -3,9 +3,6 @@ use Rattle.layer_table.specs.Table.{table_of}
 use Rattle.shown_layers.proofs.Painting.{not_painted}
 use Rattle.shown_layers.proofs.tally_shown.Goals as goal
 
-pub returns-then-paints : goal.returns-then-paints
-returns-then-paints c = rw c.if-paints.true c.paint_shown.ensures
-
 pub returns-else-paints : goal.returns-else-paints
 returns-else-paints c =
     let a = c.args in

@@ -41,24 +41,24 @@ write_tile-requires c =
     let s = (goal.at.write_tile-requires c).Start in
     let part : c.in_tile-part.result.now ≡ tile_part c.args.tile c.args.row.now = rw (to_z-of_z c.ranges.tile, to_z-of_z (tile_fits s)) at c.in_tile-part.ensures in
     let told : JudgesList (layers_of (called s).table) (listed_by (called s)) c.judge_list-judged.result = rw part at c.judge_list-judged.ensures.judged in
-    let few = (list_passed _ _ (sym told.verdict ∙ ap judgement_in c.in-Pass.is)).few in
-    rw part (c.requires.walks, c.requires.covers_long, c.requires.in_table, c.requires.rooms, rw part at (c.judge_list-judged.ensures.carries (ap judgement_in c.in-Pass.is)), few, told.listed)
+    let few = (list_passed _ _ (sym told.verdict ∙ ap judgement_in c.in-Ok.is)).few in
+    rw part (c.requires.walks, c.requires.covers_long, c.requires.in_table, c.requires.rooms, rw part at (c.judge_list-judged.ensures.carries (ap judgement_in c.in-Ok.is)), few, told.listed)
 
 pub done-requires : goal.done-requires
 done-requires c = c.requires.next_low
 
-pub returns-in-Refuse : goal.returns-in-Refuse
-returns-in-Refuse c =
-    let s = (goal.at.returns-in-Refuse c).Start in
+pub returns-in-Err : goal.returns-in-Err
+returns-in-Err c =
+    let s = (goal.at.returns-in-Err c).Start in
     let part : c.in_tile-part.result.now ≡ tile_part c.args.tile c.args.row.now = rw (to_z-of_z c.ranges.tile, to_z-of_z (tile_fits s)) at c.in_tile-part.ensures in
     let told : JudgesList (layers_of (called s).table) (listed_by (called s)) c.judge_list-judged.result = rw part at c.judge_list-judged.ensures.judged in
-    refused_by (called s) (lentTo s) (sym told.verdict ∙ ap judgement_in c.in-Refuse.is) refl c.refuse.ensures
+    refused_by (called s) (lentTo s) (sym told.verdict ∙ ap judgement_in c.in-Err.is) refl c.refuse.ensures
 
-pub returns-in-Pass : goal.returns-in-Pass
-returns-in-Pass c =
-    let s = (goal.at.returns-in-Pass c).Start in
+pub returns-in-Ok : goal.returns-in-Ok
+returns-in-Ok c =
+    let s = (goal.at.returns-in-Ok c).Start in
     let part : c.in_tile-part.result.now ≡ tile_part c.args.tile c.args.row.now = rw (to_z-of_z c.ranges.tile, to_z-of_z (tile_fits s)) at c.in_tile-part.ensures in
     let told : JudgesList (layers_of (called s).table) (listed_by (called s)) c.judge_list-judged.result = rw part at c.judge_list-judged.ensures.judged in
     let w = c.write_tile.ensures in
-    done_by (called s) (lentTo s) c.args.state c.in_tile-part.result.now part (sym told.verdict ∙ ap judgement_in c.in-Pass.is) refl c.done.ensures
+    done_by (called s) (lentTo s) c.args.state c.in_tile-part.result.now part (sym told.verdict ∙ ap judgement_in c.in-Ok.is) refl c.done.ensures
     told.listed w.list w.queue

@@ -24,19 +24,19 @@ pub list_judged-requires : goal.list_judged-requires
 list_judged-requires c =
     let s = (goal.at.list_judged-requires c).Start in
     let told : judgement_in c.judge_row.result ≡ list_call_verdict (called s) (lentTo s) = (rw (to_z-of_z c.ranges.tile, c.are_entries_short.ensures, c.is_short-3.ensures, c.is_short-2.ensures, c.is_short.ensures) at c.judge_row.ensures) ∙ judged_call (called s) (lentTo s) in
-    let passes : list_call_verdict (called s) (lentTo s) ≡ pass = sym told ∙ ap judgement_in c.in-Pass.is in
+    let passes : list_call_verdict (called s) (lentTo s) ≡ pass = sym told ∙ ap judgement_in c.in-Ok.is in
     rw (to_z-of_z c.ranges.tile) (judged (called s) (lentTo s) (record { small = λ i. (c.type_inv.row i).fits }) passes)
 
-pub returns-in-Refuse : goal.returns-in-Refuse
-returns-in-Refuse c =
-    let s = (goal.at.returns-in-Refuse c).Start in
+pub returns-in-Err : goal.returns-in-Err
+returns-in-Err c =
+    let s = (goal.at.returns-in-Err c).Start in
     let told : judgement_in c.judge_row.result ≡ list_call_verdict (called s) (lentTo s) = (rw (to_z-of_z c.ranges.tile, c.are_entries_short.ensures, c.is_short-3.ensures, c.is_short-2.ensures, c.is_short.ensures) at c.judge_row.ensures) ∙ judged_call (called s) (lentTo s) in
-    refused_by (called s) (lentTo s) (ap (λ (v : Judgement). and_then v (listed_verdict (called s))) (sym told ∙ ap judgement_in c.in-Refuse.is)) refl c.refuse.ensures
+    refused_by (called s) (lentTo s) (ap (λ (v : Judgement). and_then v (listed_verdict (called s))) (sym told ∙ ap judgement_in c.in-Err.is)) refl c.refuse.ensures
 
-pub returns-in-Pass : goal.returns-in-Pass
-returns-in-Pass c =
-    let s = (goal.at.returns-in-Pass c).Start in
+pub returns-in-Ok : goal.returns-in-Ok
+returns-in-Ok c =
+    let s = (goal.at.returns-in-Ok c).Start in
     let told : judgement_in c.judge_row.result ≡ list_call_verdict (called s) (lentTo s) = (rw (to_z-of_z c.ranges.tile, c.are_entries_short.ensures, c.is_short-3.ensures, c.is_short-2.ensures, c.is_short.ensures) at c.judge_row.ensures) ∙ judged_call (called s) (lentTo s) in
-    let passes : list_call_verdict (called s) (lentTo s) ≡ pass = sym told ∙ ap judgement_in c.in-Pass.is in
+    let passes : list_call_verdict (called s) (lentTo s) ≡ pass = sym told ∙ ap judgement_in c.in-Ok.is in
     let given = rw (to_z-of_z c.ranges.tile) at c.list_judged.ensures in
     rw passes given

@@ -1,4 +1,3 @@
-use Rattle.std.specs.Prelude.{◌-◌}
 use Rattle.laws.proofs.Prelude.{Bool}
 use Rattle.layer_table.specs.Table.{table_of}
 use Rattle.cover_statements.proofs.Testing.{Testing}
@@ -12,6 +11,3 @@ isUnchanged x = x.unchanged
 
 abbrev pub invariant-loop-i : goal.invariant-loop-i
 invariant-loop-i l = Testing isUnchanged (items_of (table_of l.layers l.colors l.count) (entries_of l.n l.ids l.covers l.flags)) l.n l.ok l.i
-
-abbrev pub decreases-loop-i : goal.decreases-loop-i
-decreases-loop-i l = l.n - l.i

@@ -1,8 +1,8 @@
 -- `tile_unchanged::were_removed` meets its contract. Assumes nothing.
-use Rattle.laws.proofs.Prelude.{sym, ap}
-use Rattle.pass_statements.specs.declared.unchanged.PreviousCount.{PreviousCount}
+use Rattle.std.specs.Prelude.{Option}
+use Rattle.laws.proofs.Prelude.{sym, ap, ℕ}
 use Rattle.pass_statements.specs.Unchanged.{were_removed}
 use Rattle.tile_unchanged.proofs.were_removed.Goals as goal
 
-pub returns-in-Kept : goal.returns-in-Kept
-returns-in-Kept c = sym (ap (λ (p : PreviousCount). were_removed p c.args.n) c.in-Kept.is)
+pub returns-in-Some : goal.returns-in-Some
+returns-in-Some c = sym (ap (λ (p : Option ℕ). were_removed p c.args.n) c.in-Some.is)

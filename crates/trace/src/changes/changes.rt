@@ -4,11 +4,7 @@ use pixel_segment::PixelSegment;
 
 // A channel of a table's record, which has four.
 fn channel_at(colors: &[f32], place: usize) -> f32 {
-    if place < colors.len() {
-        colors[place]
-    } else {
-        0.0
-    }
+    colors.get(place).copied().unwrap_or(0.0)
 }
 
 // The place of word k of the record at place i. There are at most 64 records.
@@ -56,23 +52,15 @@ fn has_record(
     i: usize,
 ) -> bool {
     let mut found = false;
-    let mut p: usize = 0;
-    while p < old_count {
-        found = found | (is_same_record(old, p, new, i) & is_same_alpha(old_colors, p, colors, i));
-        p += 1;
+    for p in 0..old_count {
+        found |= is_same_record(old, p, new, i) & is_same_alpha(old_colors, p, colors, i);
     }
     found
 }
 
 // How often a row has a word.
 fn count_word(row: &[u64], word: u64) -> usize {
-    let mut n: usize = 0;
-    let mut i: usize = 0;
-    while i < row.len() {
-        n = std::num::wrapping_add_usize(n, (row[i] == word) as usize);
-        i += 1;
-    }
-    n
+    row.iter().filter(|other| **other == word).count()
 }
 
 fn is_of_layer(word: u64, id: u32) -> bool {
@@ -82,12 +70,9 @@ fn is_of_layer(word: u64, id: u32) -> bool {
 // Whether another row has each word of a layer as often.
 fn has_segments(row: &[u64], other: &[u64], id: u32) -> bool {
     let mut ok = true;
-    let mut i: usize = 0;
-    while i < row.len() {
-        let word = row[i];
-        let same = count_word(row, word) == count_word(other, word);
-        ok = ok & (same | !is_of_layer(word, id));
-        i += 1;
+    for word in row {
+        let same = count_word(row, *word) == count_word(other, *word);
+        ok &= same | !is_of_layer(*word, id);
     }
     ok
 }
@@ -110,13 +95,11 @@ pub fn mark_unchanged(
     count: usize,
     row: &[u64],
 ) {
-    let mut i: usize = 0;
-    while i < count {
+    for i in 0..count {
         let id = id_at(layers, word_place(i, 0));
         let same = has_record(old_layers, old_colors, old_count, layers, colors, i)
             & has_segments(row, old_row, id)
             & has_segments(old_row, row, id);
         set_unchanged(layers, i, same);
-        i += 1;
     }
 }

@@ -24,14 +24,9 @@ fn word_at(layers: &[u32], place: usize, k: usize) -> u32 {
 
 // The place of a layer's record, or the number of records where it has none.
 fn place_of(layers: &[u32], count: usize, id: u32) -> usize {
-    let mut i: usize = 0;
-    while i < count {
-        if word_at(layers, i, 0) == id {
-            return i;
-        }
-        i += 1;
-    }
-    i
+    (0..count)
+        .find(|place| word_at(layers, *place, 0) == id)
+        .unwrap_or(count)
 }
 
 pub fn record_of(layers: &[u32], count: usize, id: u32) -> Record {

@@ -25,15 +25,11 @@ fn area_place(column: usize, row: usize) -> usize {
 }
 
 fn coverage_at(plane: &[f32], place: usize) -> f32 {
-    if place < plane.len() {
-        plane[place]
-    } else {
-        0.0
-    }
+    plane.get(place).copied().unwrap_or(0.0)
 }
 
 fn area_at(areas: &[i16], place: usize) -> i16 {
-    if place < areas.len() { areas[place] } else { 0 }
+    areas.get(place).copied().unwrap_or(0)
 }
 
 // The digit of whole tenths from 5 on.
@@ -82,10 +78,8 @@ fn character(coverage: f32) -> u8 {
 
 fn print_line(rt: &impl Print, plane: &[f32], row: usize) -> io::Result<()> {
     let mut line = [b' '; 16];
-    let mut column = 0;
-    while column < 16 {
-        line[column] = character(coverage_at(plane, place_of(column, row)));
-        column += 1;
+    for (column, byte) in line.iter_mut().enumerate() {
+        *byte = character(coverage_at(plane, place_of(column, row)));
     }
     crate::text::print(rt, b"    ")?;
     crate::text::print(rt, &line)?;
@@ -94,31 +88,25 @@ fn print_line(rt: &impl Print, plane: &[f32], row: usize) -> io::Result<()> {
 
 // The coverages of a plane, a line for each pixel row.
 pub fn print_plane(rt: &impl Print, plane: &[f32]) -> io::Result<()> {
-    let mut row: usize = 0;
-    while row < 16 {
+    for row in 0..16 {
         print_line(rt, plane, row)?;
-        row += 1;
     }
     Ok(())
 }
 
 // The doubled areas of a pixel row.
 fn print_areas(rt: &impl Print, areas: &[i16], row: usize) -> io::Result<()> {
-    let mut column: usize = 0;
-    while column < 16 {
+    for column in 0..16 {
         crate::text::print_signed(rt, area_at(areas, area_place(column, row)), 6)?;
-        column += 1;
     }
     crate::text::print(rt, b"\n")
 }
 
 // Their weights.
 fn print_weights(rt: &impl Print, areas: &[i16], row: usize, rule: FillRule) -> io::Result<()> {
-    let mut column: usize = 0;
-    while column < 16 {
+    for column in 0..16 {
         let d = area_at(areas, area_place(column, row));
         crate::text::print_right(rt, weight::weight(d, rule) as u64, 6)?;
-        column += 1;
     }
     crate::text::print(rt, b"\n")
 }
@@ -126,12 +114,8 @@ fn print_weights(rt: &impl Print, areas: &[i16], row: usize, rule: FillRule) -> 
 // Whether two pixel rows have the same doubled areas.
 fn are_alike(areas: &[i16], row: usize, other: usize) -> bool {
     let mut ok = true;
-    let mut column: usize = 0;
-    while column < 16 {
-        ok = ok
-            & (area_at(areas, area_place(column, row))
-                == area_at(areas, area_place(column, other)));
-        column += 1;
+    for column in 0..16 {
+        ok &= area_at(areas, area_place(column, row)) == area_at(areas, area_place(column, other));
     }
     ok
 }
@@ -153,10 +137,8 @@ fn print_row(rt: &impl Print, areas: &[i16], row: usize, rule: FillRule) -> io::
 
 // The pixel rows of a tile. One that is like the row above it is left out.
 pub fn print_rows(rt: &impl Print, areas: &[i16], rule: FillRule) -> io::Result<()> {
-    let mut row: usize = 0;
-    while row < 16 {
+    for row in 0..16 {
         print_row(rt, areas, row, rule)?;
-        row += 1;
     }
     Ok(())
 }

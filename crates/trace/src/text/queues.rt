@@ -13,10 +13,8 @@ pub fn cover_in(covers: &[i8], place: usize, y: usize) -> i8 {
 }
 
 fn print_covers(rt: &impl Print, covers: &[i8], place: usize) -> io::Result<()> {
-    let mut y: usize = 0;
-    while y < 16 {
+    for y in 0..16 {
         crate::text::print_signed(rt, crate::text::wide(cover_in(covers, place, y)), 5)?;
-        y += 1;
     }
     crate::text::print(rt, b"\n")
 }
@@ -42,10 +40,8 @@ pub fn print_queue(
     if 0 < n {
         crate::text::print(rt, b"      layer  covers of pixel rows 0 to 15\n")?;
     }
-    let mut i: usize = 0;
-    while i < n {
+    for i in 0..n {
         print_carry(rt, crate::text::id_at(ids, i), covers, i)?;
-        i += 1;
     }
     Ok(())
 }

@@ -21,16 +21,14 @@ pub fn print_part(rt: &impl Print, part: &[u64]) -> io::Result<()> {
     crate::text::print(rt, b"  segments: ")?;
     crate::text::print_number(rt, part.len() as u64)?;
     crate::text::print(rt, b"\n")?;
-    if 0 < part.len() {
+    if !part.is_empty() {
         crate::text::print(
             rt,
             b"    word               tile_y tile_x   layer   x   y  mult cover  area\n",
         )?;
     }
-    let mut i: usize = 0;
-    while i < part.len() {
-        print_word(rt, part[i])?;
-        i += 1;
+    for word in part {
+        print_word(rt, *word)?;
     }
     Ok(())
 }

@@ -6,14 +6,9 @@ use styling::Color;
 
 // A channel in whole 256ths, at most 256.
 fn in_256ths(channel: f32) -> u16 {
-    let mut k: u16 = 0;
-    while k < 256 {
-        if channel <= (k as f32) * 0.00390625 {
-            return k;
-        }
-        k += 1;
-    }
-    k
+    (0..256)
+        .find(|k: &u16| channel <= (*k as f32) * 0.00390625)
+        .unwrap_or(256)
 }
 
 fn print_channel(rt: &impl Print, channel: f32) -> io::Result<()> {
@@ -49,6 +44,7 @@ pub fn print_word(rt: &impl Print, decision: Decision) -> io::Result<()> {
     }
 }
 
+// Beside `row_driver`'s: its clause cites `is_paint` of row_lines, and this program asks for neither crate.
 pub fn is_paint(decision: Decision) -> bool {
     match decision {
         Decision::None => false,

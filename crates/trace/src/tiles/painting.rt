@@ -4,8 +4,8 @@ use crate::tiles::chosen::Chosen;
 use crate::tiles::lent::{List, Queue, Table};
 use crate::tiles::{chosen, lent};
 use cover::Cover;
-use painter::Clip;
-use row_statements::{PaintAnswer, Painted, RowState};
+use refusals::Refusal;
+use row_statements::{Painted, RowState};
 use segment_rows::parts;
 use std::io;
 use styling::FillRule;
@@ -60,10 +60,10 @@ fn print_areas(
     planes::print_rows(rt, &areas, rule)
 }
 
-fn print_clip(rt: &impl Print, clip: Clip) -> io::Result<()> {
+fn print_clip(rt: &impl Print, clip: Option<u32>) -> io::Result<()> {
     match clip {
-        Clip::Absent => crate::text::print(rt, b", the painter has no clip after it\n"),
-        Clip::Until(last) => {
+        None => crate::text::print(rt, b", the painter has no clip after it\n"),
+        Some(last) => {
             crate::text::print(rt, b", the painter has a clip after it, up to layer ")?;
             crate::text::print_number(rt, last as u64)?;
             crate::text::print(rt, b"\n")
@@ -71,7 +71,7 @@ fn print_clip(rt: &impl Print, clip: Clip) -> io::Result<()> {
     }
 }
 
-fn print_mark(rt: &impl Print, id: u32, mark: u32, clip: Clip) -> io::Result<()> {
+fn print_mark(rt: &impl Print, id: u32, mark: u32, clip: Option<u32>) -> io::Result<()> {
     crate::text::print(rt, b"  painted layer ")?;
     crate::text::print_number(rt, id as u64)?;
     crate::text::print(rt, b": mark ")?;
@@ -92,17 +92,17 @@ fn tell_answer(
     rt: &impl Print,
     chosen: Chosen,
     id: u32,
-    answer: PaintAnswer,
-    clip: Clip,
+    answer: Result<u32, Refusal>,
+    clip: Option<u32>,
 ) -> io::Result<u32> {
     match answer {
-        PaintAnswer::Mark(mark) => {
+        Ok(mark) => {
             if chosen::has_painting(chosen, id) {
                 print_mark(rt, id, mark, clip)?;
             }
             Ok(mark::octets(mark))
         }
-        PaintAnswer::Refused(refusal) => {
+        Err(refusal) => {
             print_refusal(rt, refusals::number_of(refusal))?;
             Ok(0)
         }
@@ -182,8 +182,8 @@ fn paint_layer(
     tell_pixels(rt, chosen, id, tile, after.tile_y, cover, row, rule, &plane)?;
     Ok(Tally {
         state: after,
-        shown: std::num::wrapping_add_u32(tally.shown, 1),
-        octets: std::num::wrapping_add_u32(tally.octets, octets),
+        shown: tally.shown.wrapping_add(1),
+        octets: tally.octets.wrapping_add(octets),
     })
 }
 
@@ -192,7 +192,7 @@ fn count_layer(tally: Tally) -> Tally {
     let state = tally.state;
     Tally {
         state: state,
-        shown: std::num::wrapping_add_u32(tally.shown, 1),
+        shown: tally.shown.wrapping_add(1),
         octets: tally.octets,
     }
 }
@@ -220,15 +220,6 @@ fn tally_entry(
     paint_layer(rt, chosen, tally, tile, id, cover, row, table, queue)
 }
 
-// How many are left of `listed` past the first `skipped`.
-fn rest_of(skipped: usize, listed: usize) -> usize {
-    if skipped < listed {
-        listed - skipped
-    } else {
-        0
-    }
-}
-
 // The shown layers of a list of `listed` layers, of which the first `skipped` are passed over.
 pub fn tally_shown(
     rt: &impl Print,
@@ -251,10 +242,7 @@ pub fn tally_shown(
         shown: 0,
         octets: 0,
     };
-    let mut i = skipped;
-    let mut left = rest_of(skipped, listed);
-    while 0 < left {
-        left -= 1;
+    for i in skipped..listed {
         tally = tally_entry(
             rt,
             chosen,
@@ -268,7 +256,6 @@ pub fn tally_shown(
             table,
             queue,
         )?;
-        i = std::num::wrapping_add_usize(i, 1);
     }
     Ok(tally)
 }

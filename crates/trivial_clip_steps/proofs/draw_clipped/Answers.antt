@@ -3,10 +3,10 @@ use Rattle.pass_statements.proofs.Steps.{no_clip, outside, inside}
 use Rattle.trivial_clip_steps.proofs.draw_clipped.Goals as goal
 
 pub returns-then-k-id : goal.returns-then-k-id
-returns-then-k-id c = outside c.in-Active.is c.if-k-id.true
+returns-then-k-id c = outside c.in-Some.is c.if-k-id.true
 
-pub returns-in-Nothing : goal.returns-in-Nothing
-returns-in-Nothing c = no_clip _ c.in-Nothing.is
+pub returns-in-None : goal.returns-in-None
+returns-in-None c = no_clip _ c.in-None.is
 
 pub returns-else-k-id : goal.returns-else-k-id
-returns-else-k-id c = inside c.in-Active.is c.if-k-id.false
+returns-else-k-id c = inside c.in-Some.is c.if-k-id.false

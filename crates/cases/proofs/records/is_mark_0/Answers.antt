@@ -2,5 +2,5 @@
 use Rattle.laws.proofs.Prelude.{rules}
 use Rattle.cases.proofs.records.is_mark_0.Goals as goal
 
-pub returns-in-Mark : goal.returns-in-Mark
-returns-in-Mark c = rw c.in-Mark.is
+pub returns-in-Ok : goal.returns-in-Ok
+returns-in-Ok c = rw c.in-Ok.is

@@ -2,5 +2,5 @@
 use Rattle.laws.proofs.Prelude.{rules}
 use Rattle.cases.proofs.tiles.is_count.Goals as goal
 
-pub returns-in-Count : goal.returns-in-Count
-returns-in-Count c = rw c.in-Count.is
+pub returns-in-Some : goal.returns-in-Some
+returns-in-Some c = rw c.in-Some.is

@@ -2,5 +2,5 @@
 use Rattle.laws.proofs.Prelude.{rules}
 use Rattle.cases.proofs.words.is_absent.Goals as goal
 
-pub returns-in-Absent : goal.returns-in-Absent
-returns-in-Absent c = rw c.in-Absent.is
+pub returns-in-Err : goal.returns-in-Err
+returns-in-Err c = rw c.in-Err.is

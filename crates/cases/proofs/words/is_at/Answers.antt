@@ -2,5 +2,5 @@
 use Rattle.laws.proofs.Prelude.{rules}
 use Rattle.cases.proofs.words.is_at.Goals as goal
 
-pub returns-in-At : goal.returns-in-At
-returns-in-At c = rw c.in-At.is
+pub returns-in-Ok : goal.returns-in-Ok
+returns-in-Ok c = rw c.in-Ok.is

@@ -2,5 +2,5 @@
 use Rattle.laws.proofs.Prelude.{rules}
 use Rattle.cases.proofs.words.is_word.Goals as goal
 
-pub returns-in-Segment : goal.returns-in-Segment
-returns-in-Segment c = rw c.in-Segment.is
+pub returns-in-Ok : goal.returns-in-Ok
+returns-in-Ok c = rw c.in-Ok.is

@@ -1,11 +1,6 @@
-use Rattle.std.specs.Prelude.{◌-◌}
-use Rattle.laws.proofs.Prelude.{length}
 use Rattle.pixel_segment.specs.Field.{cpu}
 use Rattle.cover_statements.proofs.Loads.{Loading}
 use Rattle.cover.proofs.carry.add_loads.Given as goal
 
-abbrev pub invariant-loop-i : goal.invariant-loop-i
-invariant-loop-i l = Loading cpu 16 l.part l.initial.loads l.i l.loads
-
-abbrev pub decreases-loop-i : goal.decreases-loop-i
-decreases-loop-i l = length l.part - l.i
+abbrev pub invariant-loop-word : goal.invariant-loop-word
+invariant-loop-word l = Loading cpu 16 l.part l.initial.loads l.word-index l.loads

@@ -1,8 +1,9 @@
 -- `area::add_bounds` meets its contract. Assumes nothing.
-use Rattle.std.specs.Prelude.{◌≡◌, ◌<◌}
-use Rattle.laws.proofs.Prelude.{sym, ◌∙◌, arith, pos, length, get_or, to_z-of_z, w8, w16, small, kept}
+use Rattle.std.specs.Prelude.{◌≡◌, ◌<◌, ◌+ℤ◌}
+use Rattle.laws.proofs.Prelude.{sym, ◌∙◌, arith, pos, length, get_or, to_z-of_z, w8, w16, SFits, small, kept}
 use Rattle.pixel_segment.specs.Field.{cpu, cover_of, double_area_of}
 use Rattle.pixel_segment.proofs.Ranges.{cpu_layout}
+use Rattle.cover_statements.specs.Cover.{cover_at}
 use Rattle.cover_statements.specs.InnerCell.{cell_of}
 use Rattle.cover_bounds_statements.specs.Chosen.{chosen}
 use Rattle.cover_bounds_statements.specs.Within.{bound_at}
@@ -33,20 +34,19 @@ area_is d =
     rw (kept w8 d.bound_at-cover.result d.bound_at-cover.type_inv, d.bound_at-cover.ensures) at d.double_area.ensures
     ∙ sym (chosen_double_area cpu d.args.part.now (bound_at d.args.side d.args.bounds.now) cpu_layout d.loop-i.i (low d) d.requires.0.held)
 
+-- the cell's sum of double areas is small
+sum_small : (d : After-double_area)
+    → SFits w16 (cover_at d.loop-i.areas d.cell-k.result +ℤ double_area_of cpu (get_or (chosen cpu d.args.part.now (bound_at d.args.side d.args.bounds.now)) d.loop-i.i 0))
+sum_small d = small w16 _ (omega (arith, area_fits d.requires.0.few d.loop-i.invariant.1 (here d) (cell-is d)))
+
 pub loop-i-init : goal.loop-i-init
 loop-i-init c = (omega arith, add_start c.requires.1 c.requires.2)
 
-pub bound_at-cover-requires : goal.bound_at-cover-requires
-bound_at-cover-requires c = omega (arith, c.requires.0.side_is, c.requires.0.pairs)
-
 pub overflow_add-areas : goal.overflow_add-areas
 overflow_add-areas c =
-    rw (
-      kept w16 (get_or c.loop-i.areas c.cell-k.result (pos 0)) (omega arith),
-      kept w16 c.double_area.result c.double_area.type_inv,
-      area_is c,
-    )
-    (small w16 _ (omega (arith, area_fits c.requires.0.few c.loop-i.invariant.1 (here c) (cell-is c))))
+    let d = (goal.at.overflow_add-areas c).After-double_area in
+    rw (kept w16 (get_or c.loop-i.areas c.cell-k.result (pos 0)) (omega arith), kept w16 c.double_area.result c.double_area.type_inv, area_is d)
+    (sum_small d)
 
 pub overflow_add-covers : goal.overflow_add-covers
 overflow_add-covers c =
@@ -62,10 +62,10 @@ loop-i-preserved c = (
   omega arith,
   add_next c.requires.0.few c.loop-i.invariant.1 (here (goal.at.loop-i-preserved c).After-double_area) (cell-is (goal.at.loop-i-preserved c).After-double_area)
       (rw (
-        to_z-of_z (overflow_add-areas (goal.at.loop-i-preserved c).After-double_area),
         kept w16 (get_or c.loop-i.areas c.cell-k.result (pos 0)) (omega arith),
         kept w16 c.double_area.result c.double_area.type_inv,
         area_is (goal.at.loop-i-preserved c).After-double_area,
+        to_z-of_z (sum_small (goal.at.loop-i-preserved c).After-double_area),
       ))
       (rw (
         to_z-of_z (overflow_add-covers c),

@@ -1,4 +1,4 @@
-use Rattle.std.specs.Prelude.{◌-◌, ◌≤◌}
+use Rattle.std.specs.Prelude.{◌≤◌}
 use Rattle.laws.proofs.Prelude.{length}
 use Rattle.pixel_segment.specs.Field.{cpu}
 use Rattle.cover_bounds_statements.specs.Chosen.{chosen}
@@ -8,6 +8,3 @@ use Rattle.cover_bounds.proofs.area.add_bounds.Given as goal
 
 abbrev pub invariant-loop-i : goal.invariant-loop-i
 invariant-loop-i l = (l.i ≤ length l.part) × Adding (chosen cpu l.part (bound_at l.side l.bounds)) l.i l.areas l.covers
-
-abbrev pub decreases-loop-i : goal.decreases-loop-i
-decreases-loop-i l = length l.part - l.i

@@ -10,4 +10,4 @@ returns-then-has_multiple c =
 pub returns-else-has_multiple : goal.returns-else-has_multiple
 returns-else-has_multiple c =
     greatest_of_ends c.args.a c.args.b c.requires.1 (sym (rw (to_z-of_z c.ranges.a, to_z-of_z c.ranges.b) at c.has_multiple.ensures) ∙ c.if-has_multiple.false)
-    (c.greater.ensures ∙ ap₂ max (rw (to_z-of_z c.ranges.a) at c.even_odd_in.ensures) (rw (to_z-of_z c.ranges.b) at c.even_odd_in-else-has_multiple.ensures))
+    (c.max.ensures ∙ ap₂ max (rw (to_z-of_z c.ranges.a) at c.even_odd_in.ensures) (rw (to_z-of_z c.ranges.b) at c.even_odd_in-else-has_multiple.ensures))

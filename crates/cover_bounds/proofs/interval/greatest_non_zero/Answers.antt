@@ -6,4 +6,4 @@ use Rattle.cover_bounds.proofs.interval.greatest_non_zero.Goals as goal
 pub returns : goal.returns
 returns c =
     greatest_of_both c.args.a c.args.b c.requires
-    (c.greater.ensures ∙ ap₂ max (rw (to_z-of_z c.ranges.a) at c.non_zero.ensures) (rw (to_z-of_z c.ranges.b) at c.non_zero-2.ensures))
+    (c.max.ensures ∙ ap₂ max (rw (to_z-of_z c.ranges.a) at c.non_zero.ensures) (rw (to_z-of_z c.ranges.b) at c.non_zero-2.ensures))

@@ -11,4 +11,4 @@ returns-then-has_multiple c =
 pub returns-else-has_multiple : goal.returns-else-has_multiple
 returns-else-has_multiple c =
     least_of_ends c.args.a c.args.b c.requires.1 EvenOdd (sym (rw (to_z-of_z c.ranges.a, to_z-of_z c.ranges.b) at c.has_multiple.ensures) ∙ c.if-has_multiple.false)
-    (c.lesser.ensures ∙ ap₂ min (rw (to_z-of_z c.ranges.a) at c.even_odd_in.ensures) (rw (to_z-of_z c.ranges.b) at c.even_odd_in-else-has_multiple.ensures))
+    (c.min.ensures ∙ ap₂ min (rw (to_z-of_z c.ranges.a) at c.even_odd_in.ensures) (rw (to_z-of_z c.ranges.b) at c.even_odd_in-else-has_multiple.ensures))

@@ -11,4 +11,4 @@ returns-then-has_zero c =
 pub returns-else-has_zero : goal.returns-else-has_zero
 returns-else-has_zero c =
     least_of_ends c.args.a c.args.b c.requires NonZero (sym (rw (to_z-of_z c.ranges.a, to_z-of_z c.ranges.b) at c.has_zero.ensures) ∙ c.if-has_zero.false)
-    (c.lesser.ensures ∙ ap₂ min (rw (to_z-of_z c.ranges.a) at c.non_zero.ensures) (rw (to_z-of_z c.ranges.b) at c.non_zero-else-has_zero.ensures))
+    (c.min.ensures ∙ ap₂ min (rw (to_z-of_z c.ranges.a) at c.non_zero.ensures) (rw (to_z-of_z c.ranges.b) at c.non_zero-else-has_zero.ensures))

@@ -1,20 +1,14 @@
 -- `judging::add_heavier` meets its contract. Assumes nothing.
 use Rattle.std.specs.Prelude.{◌≡◌, ◌<◌}
-use Rattle.laws.proofs.Prelude.{sym, ◌∙◌, ℕ, arith, rules, ℤ, length, w8, kept}
+use Rattle.laws.proofs.Prelude.{sym, ◌∙◌, ℕ, arith, ℤ, length, w8, kept}
 use Rattle.pixel_segment.specs.Field.{cpu}
 use Rattle.pixel_segment.proofs.Ranges.{cpu_layout}
-use Rattle.cover_statements.proofs.Loads.{load_start, load_next, load_end}
+use Rattle.cover_statements.proofs.Loads.{load_next, load_end}
 use Rattle.cover_bounds_statements.specs.Chosen.{heavier}
 use Rattle.cover_bounds_statements.specs.Within.{bound_at}
 use Rattle.cover_bounds_statements.proofs.Calls.{held_heavier}
 use Rattle.cover_bounds_statements.proofs.Choosing.{chosen_length, chosen_y, chosen_cover}
 use Rattle.cover_bounds.proofs.judging.add_heavier.Goals as goal
-
-pub loop-i-init : goal.loop-i-init
-loop-i-init c = load_start (search rules) c.requires.0
-
-pub raised-load-requires : goal.raised-load-requires
-raised-load-requires c = c.loop-i.invariant.capped.at c.local_y-y.result
 
 pub loop-i-preserved : goal.loop-i-preserved
 loop-i-preserved c =
@@ -28,7 +22,7 @@ loop-i-preserved c =
     load_next c.loop-i.invariant (rw (chosen_length cpu part cover) low)
     (c.local_y-y.ensures ∙ sym (chosen_y cpu part cover cpu_layout i low))
     (omega arith)
-    (rw (kept w8 c.heavier-cover.result c.heavier-cover.type_inv, is, ← chosen_cover cpu part cover cpu_layout i low (held_heavier (length part) bounds c.requires.2)) at c.raised-load.ensures)
+    (rw (kept w8 c.heavier-cover.result c.heavier-cover.type_inv, is, ← chosen_cover cpu part cover cpu_layout i low (held_heavier (length part) bounds c.requires.2)) at c.raised.ensures)
 
 pub returns : goal.returns
 returns c =

@@ -1,5 +1,3 @@
-use Rattle.std.specs.Prelude.{◌-◌}
-use Rattle.laws.proofs.Prelude.{length}
 use Rattle.pixel_segment.specs.Field.{cpu}
 use Rattle.cover_statements.proofs.Loads.{Loading}
 use Rattle.cover_bounds_statements.specs.Chosen.{chosen, heavier}
@@ -8,6 +6,3 @@ use Rattle.cover_bounds.proofs.judging.add_heavier.Given as goal
 
 abbrev pub invariant-loop-i : goal.invariant-loop-i
 invariant-loop-i l = Loading cpu 16 (chosen cpu l.part (λ j. heavier (bound_at 0 l.bounds j) (bound_at 1 l.bounds j))) l.initial.loads l.i l.loads
-
-abbrev pub decreases-loop-i : goal.decreases-loop-i
-decreases-loop-i l = length l.part - l.i

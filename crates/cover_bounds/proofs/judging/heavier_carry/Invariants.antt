@@ -1,4 +1,3 @@
-use Rattle.std.specs.Prelude.{◌-◌}
 use Rattle.cover_statements.specs.Cover.{cover_at}
 use Rattle.cover_bounds_statements.specs.Chosen.{heavier}
 use Rattle.cover_bounds_statements.proofs.Loops.{Placing}
@@ -6,6 +5,3 @@ use Rattle.cover_bounds.proofs.judging.heavier_carry.Given as goal
 
 abbrev pub invariant-loop-y : goal.invariant-loop-y
 invariant-loop-y l = Placing 16 (λ r. heavier (cover_at l.lows r) (cover_at l.highs r)) l.initial.covers l.y l.covers
-
-abbrev pub decreases-loop-y : goal.decreases-loop-y
-decreases-loop-y l = 16 - l.y

@@ -2,20 +2,14 @@
 use Rattle.laws.proofs.Prelude.{ap, ◌∙◌, arith, w16, kept}
 use Rattle.cover_statements.specs.Cover.{cover_at}
 use Rattle.cover_statements.specs.Plane.{in_places}
-use Rattle.cover_bounds_statements.proofs.Loops.{place_start, place_next, place_end}
+use Rattle.cover_bounds_statements.proofs.Loops.{place_next, place_end}
 use Rattle.cover_bounds.proofs.planes.write_areas.Goals as goal
-
-pub loop-place-init : goal.loop-place-init
-loop-place-init c = place_start c.requires
 
 pub loop-place-preserved : goal.loop-place-preserved
 loop-place-preserved c =
     let areas = c.args.areas.now in
     place_next c.loop-place.invariant (omega arith)
     (kept w16 (cover_at areas c.cell.result) (omega arith) ∙ ap (cover_at areas) c.cell.ensures)
-
-pub shape_of-plane : goal.shape_of-plane
-shape_of-plane c = c.loop-place.invariant.long
 
 pub returns : goal.returns
 unfolding in_places

@@ -4,28 +4,8 @@ use Rattle.styling.specs.declared.FillRule.TheVariants.{EvenOdd}
 use Rattle.cover_statements.specs.Cover.{cover_at}
 use Rattle.cover_statements.specs.Plane.{in_places}
 use Rattle.cover_bounds_statements.specs.Interval.{least_weight, greatest_weight}
-use Rattle.cover_bounds_statements.proofs.Loops.{place_start, place_next, place_end}
+use Rattle.cover_bounds_statements.proofs.Loops.{place_next, place_end}
 use Rattle.cover_bounds.proofs.planes.write_even_odd.Goals as goal
-
-pub loop-place-init : goal.loop-place-init
-loop-place-init c =
-    (place_start c.requires.2, place_start c.requires.3)
-
-pub least_even_odd-requires : goal.least_even_odd-requires
-least_even_odd-requires c =
-    let lows = c.args.lows.now in
-    let highs = c.args.highs.now in
-    let z = c.cell-k.result in
-    rw (kept w16 (cover_at lows z) (omega arith), kept w16 (cover_at highs z) (omega arith))
-    (c.requires.0, c.requires.1.at z (omega arith))
-
-pub greatest_even_odd-requires : goal.greatest_even_odd-requires
-greatest_even_odd-requires c =
-    let lows = c.args.lows.now in
-    let highs = c.args.highs.now in
-    let z = c.cell-k.result in
-    rw (kept w16 (cover_at lows z) (omega arith), kept w16 (cover_at highs z) (omega arith))
-    (c.requires.0, c.requires.1.at z (omega arith))
 
 pub loop-place-preserved : goal.loop-place-preserved
 loop-place-preserved c =
@@ -39,12 +19,6 @@ loop-place-preserved c =
           (rw (kept w16 (cover_at lows z) (omega arith), kept w16 (cover_at highs z) (omega arith)) at c.greatest_even_odd.ensures
           ∙ ap (λ (v : ℕ). greatest_weight EvenOdd (cover_at lows v) (cover_at highs v)) c.cell-k.ensures),
     )
-
-pub shape_of-least : goal.shape_of-least
-shape_of-least c = c.loop-place.invariant.0.long
-
-pub shape_of-greatest : goal.shape_of-greatest
-shape_of-greatest c = c.loop-place.invariant.1.long
 
 pub returns : goal.returns
 unfolding in_places

@@ -4,28 +4,8 @@ use Rattle.styling.specs.declared.FillRule.TheVariants.{NonZero}
 use Rattle.cover_statements.specs.Cover.{cover_at}
 use Rattle.cover_statements.specs.Plane.{in_places}
 use Rattle.cover_bounds_statements.specs.Interval.{least_weight, greatest_weight}
-use Rattle.cover_bounds_statements.proofs.Loops.{place_start, place_next, place_end}
+use Rattle.cover_bounds_statements.proofs.Loops.{place_next, place_end}
 use Rattle.cover_bounds.proofs.planes.write_non_zero.Goals as goal
-
-pub loop-place-init : goal.loop-place-init
-loop-place-init c =
-    (place_start c.requires.1, place_start c.requires.2)
-
-pub least_non_zero-requires : goal.least_non_zero-requires
-least_non_zero-requires c =
-    let lows = c.args.lows.now in
-    let highs = c.args.highs.now in
-    let z = c.cell-k.result in
-    rw (kept w16 (cover_at lows z) (omega arith), kept w16 (cover_at highs z) (omega arith))
-    (c.requires.0.at z (omega arith))
-
-pub greatest_non_zero-requires : goal.greatest_non_zero-requires
-greatest_non_zero-requires c =
-    let lows = c.args.lows.now in
-    let highs = c.args.highs.now in
-    let z = c.cell-k.result in
-    rw (kept w16 (cover_at lows z) (omega arith), kept w16 (cover_at highs z) (omega arith))
-    (c.requires.0.at z (omega arith))
 
 pub loop-place-preserved : goal.loop-place-preserved
 loop-place-preserved c =
@@ -39,12 +19,6 @@ loop-place-preserved c =
           (rw (kept w16 (cover_at lows z) (omega arith), kept w16 (cover_at highs z) (omega arith)) at c.greatest_non_zero.ensures
           ∙ ap (λ (v : ℕ). greatest_weight NonZero (cover_at lows v) (cover_at highs v)) c.cell-k.ensures),
     )
-
-pub shape_of-least : goal.shape_of-least
-shape_of-least c = c.loop-place.invariant.0.long
-
-pub shape_of-greatest : goal.shape_of-greatest
-shape_of-greatest c = c.loop-place.invariant.1.long
 
 pub returns : goal.returns
 unfolding in_places

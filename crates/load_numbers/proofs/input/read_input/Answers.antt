@@ -3,29 +3,23 @@ use Rattle.laws.proofs.Prelude.{arith}
 use Rattle.load_numbers.proofs.Reading.{no_seed, no_tiles, no_count, more_behind, numbers, nothing}
 use Rattle.load_numbers.proofs.input.read_input.Goals as goal
 
-pub returns-in_default : goal.returns-in_default
-returns-in_default c = no_seed (rw c.in_default.is at c.read_field.ensures)
+pub returns-in_err-seed : goal.returns-in_err-seed
+returns-in_err-seed c = rw c.from_residual.ensures (no_seed c.in_err-seed.ensures)
 
-pub returns-in_default-read_field : goal.returns-in_default-read_field
-returns-in_default-read_field c =
-    no_tiles (rw c.in-Number.is at c.read_field.ensures) (rw c.in_default-read_field.is at c.read_field-2.ensures)
+pub returns-in_err-tiles : goal.returns-in_err-tiles
+returns-in_err-tiles c = rw c.from_residual-in_err-tiles.ensures (no_tiles c.in_ok-seed.ensures c.in_err-tiles.ensures)
 
-pub returns-in_default-read_field-2 : goal.returns-in_default-read_field-2
-returns-in_default-read_field-2 c =
-    no_count (rw c.in-Number.is at c.read_field.ensures) (rw c.in-Number-read_field.is at c.read_field-2.ensures)
-    (rw c.in_default-read_field-2.is at c.read_field-3.ensures)
+pub returns-in_err-count : goal.returns-in_err-count
+returns-in_err-count c =
+    rw c.from_residual-in_err-count.ensures (no_count c.in_ok-seed.ensures c.in_ok-tiles.ensures c.in_err-count.ensures)
 
 pub returns-then-last-text : goal.returns-then-last-text
-returns-then-last-text c =
-    more_behind (rw c.in-Number.is at c.read_field.ensures) (rw c.in-Number-read_field.is at c.read_field-2.ensures)
-    (rw c.in-Number-read_field-2.is at c.read_field-3.ensures) (omega arith)
+returns-then-last-text c = more_behind c.in_ok-seed.ensures c.in_ok-tiles.ensures c.in_ok-count.ensures (omega arith)
 
 pub returns-then-tiles-count : goal.returns-then-tiles-count
 returns-then-tiles-count c =
-    numbers (rw c.in-Number.is at c.read_field.ensures) (rw c.in-Number-read_field.is at c.read_field-2.ensures)
-    (rw c.in-Number-read_field-2.is at c.read_field-3.ensures) (omega arith) c.if-tiles-count.true
+    numbers c.in_ok-seed.ensures c.in_ok-tiles.ensures c.in_ok-count.ensures (omega arith) c.if-tiles-count.true
 
 pub returns-else-tiles-count : goal.returns-else-tiles-count
 returns-else-tiles-count c =
-    nothing (rw c.in-Number.is at c.read_field.ensures) (rw c.in-Number-read_field.is at c.read_field-2.ensures)
-    (rw c.in-Number-read_field-2.is at c.read_field-3.ensures) (omega arith) c.if-tiles-count.false
+    nothing c.in_ok-seed.ensures c.in_ok-tiles.ensures c.in_ok-count.ensures (omega arith) c.if-tiles-count.false

@@ -5,6 +5,3 @@ use Rattle.mark.proofs.weights.mark_of.Given as goal
 
 abbrev pub invariant-loop-octet : goal.invariant-loop-octet
 invariant-loop-octet l = Marking (weights_plane 16 (weights_of EvenOdd l.areas)) l.mark l.octet
-
-abbrev pub decreases-loop-octet : goal.decreases-loop-octet
-decreases-loop-octet l = l.octet

@@ -1,19 +1,12 @@
 -- `passes::clips::fill` meets its contract. Assumes nothing.
-use Rattle.laws.proofs.Prelude.{arith}
-use Rattle.pass_statements.proofs.Columns.{column_start, column_next, column_long, column_end}
+use Rattle.std.specs.Prelude.{◌≡◌}
+use Rattle.laws.proofs.Prelude.{length, take, length-take-le, length-replicate}
+use Rattle.laws.specs.Lists.{over}
 use Rattle.passes.proofs.clips.fill.Goals as goal
 
-pub loop-i-init : goal.loop-i-init
-loop-i-init c = column_start
-
-pub bounds-column-i : goal.bounds-column-i
-bounds-column-i c = omega (arith, column_long c.loop-i.invariant c.requires)
-
-pub loop-i-preserved : goal.loop-i-preserved
-loop-i-preserved c = column_next c.loop-i.invariant c.requires c.loop-i-test.true
-
-pub shape_of-column : goal.shape_of-column
-shape_of-column c = column_long c.loop-i.invariant c.requires
-
 pub returns : goal.returns
-returns c = column_end c.loop-i.invariant c.loop-i-test.false
+unfolding over
+returns c =
+    let long : length (take c.args.n c.args.column.now) ≡ c.args.n = length-take-le c.args.n c.args.column.now c.requires in
+    let filled = rw long at (c.fill.ensures.after (λ y e. e)) in
+    rw (filled, length-replicate)

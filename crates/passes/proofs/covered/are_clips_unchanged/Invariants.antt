@@ -1,4 +1,3 @@
-use Rattle.std.specs.Prelude.{◌-◌}
 use Rattle.layer_table.specs.Table.{table_of}
 use Rattle.cover_statements.proofs.Testing.{Testing}
 use Rattle.pass_statements.specs.Covered.{is_clip_unchanged}
@@ -8,6 +7,3 @@ use Rattle.passes.proofs.covered.are_clips_unchanged.Given as goal
 
 abbrev pub invariant-loop-i : goal.invariant-loop-i
 invariant-loop-i l = Testing is_clip_unchanged (items_of (table_of l.layers l.colors l.count) (entries_of l.n l.ids l.covers l.flags)) l.n l.ok l.i
-
-abbrev pub decreases-loop-i : goal.decreases-loop-i
-decreases-loop-i l = l.n - l.i

@@ -9,21 +9,6 @@ use Rattle.passes.proofs.covered.skip_fully_covered_layers_pass.Goals as goal
 pub loop-i-init : goal.loop-i-init
 loop-i-init c = look_start (length_items _ _ _ _ _) c.start-found.ensures
 
-pub bounds-unmasked-i : goal.bounds-unmasked-i
-bounds-unmasked-i c = omega (arith, c.requires.2)
-
-pub item_at-x-requires : goal.item_at-x-requires
-item_at-x-requires c =
-    (c.requires.0, c.requires.1, omega (arith, c.loop-i.invariant.reached, c.loop-i-test.true))
-
-pub bounds-unclipped-i : goal.bounds-unclipped-i
-bounds-unclipped-i c =
-    omega (arith, c.loop-i.invariant.reached, c.loop-i-test.true, c.requires.3)
-
-pub bounds-unclipped-i-then-unmasked-i : goal.bounds-unclipped-i-then-unmasked-i
-bounds-unclipped-i-then-unmasked-i c =
-    omega (arith, c.loop-i.invariant.reached, c.loop-i-test.true, c.requires.3)
-
 pub returns-then-hides : goal.returns-then-hides
 returns-then-hides c =
     let p = c.loop-i-test.true in
@@ -35,9 +20,6 @@ returns-then-hides c =
     c.hides.ensures
     c.if-hides.true
 
-pub loop-i-smaller-else-hides : goal.loop-i-smaller-else-hides
-loop-i-smaller-else-hides c = omega (arith, c.loop-i-test.true)
-
 pub loop-i-preserved-else-hides : goal.loop-i-preserved-else-hides
 loop-i-preserved-else-hides c =
     let p = c.loop-i-test.true in
@@ -48,9 +30,6 @@ loop-i-preserved-else-hides c =
     c.look_at-found.ensures
     c.hides.ensures
     c.if-hides.false
-
-pub loop-i-smaller : goal.loop-i-smaller
-loop-i-smaller c = omega (arith, c.loop-i-test.true)
 
 pub loop-i-preserved : goal.loop-i-preserved
 loop-i-preserved c = look_masked c.loop-i.invariant c.loop-i-test.true c.if-unmasked-i.false

@@ -7,6 +7,3 @@ use Rattle.passes.proofs.covered.skip_fully_covered_layers_pass.Given as goal
 abbrev pub invariant-loop-i : goal.invariant-loop-i
 invariant-loop-i l =
     Looking (items_of (table_of l.layers l.colors l.count) (entries_of l.n l.ids l.covers l.flags)) l.unmasked l.unclipped l.n l.removed l.i l.found
-
-abbrev pub decreases-loop-i : goal.decreases-loop-i
-decreases-loop-i l = l.i

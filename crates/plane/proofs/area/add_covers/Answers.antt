@@ -10,15 +10,6 @@ use Rattle.plane.proofs.area.add_covers.Goals as goal
 pub loop-y-init : goal.loop-y-init
 loop-y-init c = record { reached = omega arith; areas = none; shaded = shade_start (length-replicate 256 (pos 0)) (search rules) }
 
-pub overflow_mul-next : goal.overflow_mul-next
-overflow_mul-next c = omega (arith, c.requires.0)
-
-pub overflow_add-next : goal.overflow_add-next
-overflow_add-next c = omega (arith, c.requires.0)
-
-pub bounds-covers-column : goal.bounds-covers-column
-bounds-covers-column c = omega (arith, c.requires.0)
-
 pub overflow_add-next-in-loop-y : goal.overflow_add-next-in-loop-y
 overflow_add-next-in-loop-y c =
     rw (

@@ -1,4 +1,4 @@
-use Rattle.std.specs.Prelude.{◌-◌, ◌≤◌}
+use Rattle.std.specs.Prelude.{◌≤◌}
 use Rattle.laws.proofs.Prelude.{List, ℕ, ℤ, pos, replicate}
 use Rattle.cover_statements.specs.InnerCell.{Shaded}
 use Rattle.plane.proofs.area.add_covers.Given as goal
@@ -14,6 +14,3 @@ pub record Raised (column y : ℕ) (covers sums next : List ℤ) : Type 0 where
 
 abbrev pub invariant-loop-y : goal.invariant-loop-y
 invariant-loop-y l = Raised l.column l.y l.covers l.sums l.next
-
-abbrev pub decreases-loop-y : goal.decreases-loop-y
-decreases-loop-y l = 16 - l.y

@@ -1,9 +1,10 @@
 -- `plane::area::compute_doubled_areas` meets its contract. Assumes nothing.
 use Rattle.std.specs.Prelude.{◌≡◌, ◌+◌, ◌*◌, ◌^◌, ◌<◌, ◌+ℤ◌, ◌*ℤ◌}
-use Rattle.laws.proofs.Prelude.{refl, ℕ, arith, rules, sfits_of, lt-ltb, ℤ, pos, set, mag}
+use Rattle.laws.proofs.Prelude.{refl, ℕ, arith, sfits_of, lt-ltb, ℤ, pos, set, mag}
 use Rattle.laws.proofs.Prelude.{to_z-of_z, sfits_widen, w8, w16, SFits, sfits, within, small, kept, times, length_tabulate, get_d_tabulate}
+use Rattle.std.proofs.Math.IntN.{+ℤ_comm}
 use Rattle.cover_statements.specs.Cover.{cover_at}
-use Rattle.cover_statements.proofs.Shades.{shade_start, shade_area, shade_next}
+use Rattle.cover_statements.proofs.Shades.{shade_area, shade_next}
 use Rattle.plane.proofs.area.compute_doubled_areas.Goals as goal
 
 -- a row's sum at 16 bits, and 32 times it
@@ -12,31 +13,6 @@ wide z h = sfits_widen {w = w8} tt (sfits_of h)
 
 scaled : (z : ℤ) → mag z < 2 ^ 7 → SFits w16 (pos 32 *ℤ z)
 scaled z h = sfits w16 (pos 32 *ℤ z) (omega (arith, times 32 z, within w8 z (sfits_of h)))
-
-pub loop-y-init : goal.loop-y-init
-loop-y-init c = record { reached = omega arith; next = c.args.sums; shaded = shade_start c.requires.room (search rules) }
-
-pub overflow_mul-k : goal.overflow_mul-k
-overflow_mul-k c = omega (arith, c.requires.low)
-
-pub overflow_add-k : goal.overflow_add-k
-overflow_add-k c = omega (arith, c.requires.low)
-
-pub overflow_cast-areas : goal.overflow_cast-areas
-overflow_cast-areas c =
-    let z = cover_at c.args.sums c.loop-y.y in
-    rw (kept w8 z (omega arith)) (wide z (omega arith))
-
-pub overflow_mul-areas : goal.overflow_mul-areas
-overflow_mul-areas c =
-    let z = cover_at c.args.sums c.loop-y.y in
-    rw (kept w8 z (omega arith), to_z-of_z (wide z (omega arith))) (scaled z (omega arith))
-
-pub offset_bounds-areas-k : goal.offset_bounds-areas-k
-offset_bounds-areas-k c = omega (arith, c.requires.low)
-
-pub bounds-areas-k : goal.bounds-areas-k
-bounds-areas-k c = omega (arith, c.requires.low)
 
 pub overflow_add-areas : goal.overflow_add-areas
 overflow_add-areas c =
@@ -47,14 +23,9 @@ overflow_add-areas c =
       to_z-of_z (scaled z (omega arith)),
       kept w16 (cover_at c.loop-y.areas (c.args.column * 16 + c.loop-y.y)) (omega arith),
       shade_area c.loop-y.invariant.shaded c.requires.low c.loop-y-test.true,
+      +ℤ_comm (cover_at c.args.areas.now (c.args.column * 16 + c.loop-y.y)) (pos 32 *ℤ z),
     )
     (small w16 _ (omega (arith, c.requires.area_small c.loop-y.y c.loop-y-test.true)))
-
-pub offset_bounds-areas-k-in-loop-y : goal.offset_bounds-areas-k-in-loop-y
-offset_bounds-areas-k-in-loop-y c = omega (arith, c.requires.low)
-
-pub bounds-areas-k-in-loop-y : goal.bounds-areas-k-in-loop-y
-bounds-areas-k-in-loop-y c = omega (arith, c.requires.low)
 
 pub loop-y-preserved : goal.loop-y-preserved
 loop-y-preserved c =
@@ -70,12 +41,10 @@ loop-y-preserved c =
             to_z-of_z (wide z (omega arith)),
             to_z-of_z (scaled z (omega arith)),
             kept w16 (cover_at c.loop-y.areas (c.args.column * 16 + c.loop-y.y)) (omega arith),
+            +ℤ_comm (cover_at c.loop-y.areas (c.args.column * 16 + c.loop-y.y)) (pos 32 *ℤ z),
           ))
           refl;
     }
-
-pub add_covers-requires : goal.add_covers-requires
-add_covers-requires c = (c.requires.low, c.requires.sum_small)
 
 pub returns : goal.returns
 returns c =

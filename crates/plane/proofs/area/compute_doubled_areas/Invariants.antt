@@ -1,4 +1,4 @@
-use Rattle.std.specs.Prelude.{◌-◌, ◌≤◌}
+use Rattle.std.specs.Prelude.{◌≤◌}
 use Rattle.laws.proofs.Prelude.{List, ℕ, ℤ}
 use Rattle.cover_statements.specs.InnerCell.{Shaded}
 use Rattle.plane.proofs.area.compute_doubled_areas.Given as goal
@@ -11,6 +11,3 @@ pub record Shading (column y : ℕ) (areas₀ covers sums areas : List ℤ) : Ty
 
 abbrev pub invariant-loop-y : goal.invariant-loop-y
 invariant-loop-y l = Shading l.column l.y l.initial.areas l.covers l.sums l.areas
-
-abbrev pub decreases-loop-y : goal.decreases-loop-y
-decreases-loop-y l = 16 - l.y

@@ -1,13 +1,9 @@
 -- `are_good` meets its contract: `Passing` holds while the records are passed. Assumes nothing.
-use Rattle.laws.proofs.Prelude.{arith}
-use Rattle.revision_statements.proofs.Judging.{pass_first, pass_next, pass_last}
+use Rattle.revision_statements.proofs.Judging.{pass_next, pass_last}
 use Rattle.revisions.proofs.judging.are_good.Goals as goal
 
-pub loop-i-init : goal.loop-i-init
-loop-i-init c = (omega arith, λ floats. pass_first _ floats _)
-
 pub loop-i-preserved : goal.loop-i-preserved
-loop-i-preserved c = (omega arith, λ floats. pass_next _ floats _ (c.loop-i.invariant.1 floats) c.loop-i-test.true (c.is_good-ok.ensures floats))
+loop-i-preserved c = λ floats. pass_next _ floats _ (c.loop-i.invariant floats) c.loop-i-test.true (c.is_good-ok.ensures floats)
 
 pub returns : goal.returns
-returns c = λ floats. pass_last _ floats _ (c.loop-i.invariant.1 floats) c.loop-i-test.false
+returns c = λ floats. pass_last _ floats _ (c.loop-i.invariant floats) c.loop-i-test.false

@@ -1,5 +1,5 @@
 use Rattle.std.specs.Prelude.{◌-◌, ◌/◌, ◌^◌}
-use Rattle.laws.proofs.Prelude.{ℕ, length}
+use Rattle.laws.proofs.Prelude.{ℕ}
 use Rattle.segment_rows.proofs.Ascending.{Counted}
 use Rattle.segment_rows.proofs.order.does_ascend_above.Given as goal
 
@@ -7,8 +7,5 @@ use Rattle.segment_rows.proofs.order.does_ascend_above.Given as goal
 abbrev pub bound : ℕ → ℕ
 bound offset = 2 ^ (64 - offset)
 
-abbrev pub invariant-loop-i : goal.invariant-loop-i
-invariant-loop-i l = Counted (λ w. w / 2 ^ l.offset) (bound l.offset) l.row l.descents l.previous l.i
-
-abbrev pub decreases-loop-i : goal.decreases-loop-i
-decreases-loop-i l = length l.row - l.i
+abbrev pub invariant-loop-word : goal.invariant-loop-word
+invariant-loop-word l = Counted (λ w. w / 2 ^ l.offset) (bound l.offset) l.row l.descents l.previous l.word-index

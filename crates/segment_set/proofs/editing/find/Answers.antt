@@ -1,16 +1,17 @@
 -- `editing::find` meets its contract. Assumes nothing.
-use Rattle.laws.proofs.Prelude.{arith}
-use Rattle.segment_set_statements.proofs.Places.{look_start, look_found, look_next, look_end}
+use Rattle.std.specs.Prelude.{◌≡◌}
+use Rattle.std.specs.Option.{unwrap_or}
+use Rattle.std.proofs.lemmas.Iterator.{index_from_first}
+use Rattle.laws.proofs.Prelude.{refl, sym, ◌∙◌, rules, add-one, eq-eqb, ne_eqb, take, length-take-le}
+use Rattle.segment_set_statements.specs.Set.{held_place}
 use Rattle.segment_set.proofs.editing.find.Goals as goal
 
-pub loop-i-init : goal.loop-i-init
-loop-i-init c = look_start c.requires
-
-pub returns-then-slots-i : goal.returns-then-slots-i
-returns-then-slots-i c = look_found c.loop-i.invariant (omega arith) c.if-slots-i.true
-
-pub loop-i-preserved : goal.loop-i-preserved
-loop-i-preserved c = look_next c.loop-i.invariant (omega arith) c.if-slots-i.false
-
 pub returns : goal.returns
-returns c = look_end c.loop-i.invariant (omega arith)
+unfolding held_place
+returns c =
+    let w = c.args.word in
+    let part = take c.args.held c.args.slots.now in
+    let e : held_place w part ≡ unwrap_or c.position.result _ =
+    index_from_first (held_place w) (λ v. v ≡ w) (λ v. v ≡ w → ⊥) refl
+    (λ v vs p. rw (eq-eqb v w p)) (λ v vs n. rw (ne_eqb v w n, add-one)) part c.position.result (search rules) in
+    c.unwrap_or.ensures ∙ sym (rw (length-take-le c.args.held c.args.slots.now c.requires) at e)

@@ -82,7 +82,7 @@ note_tile-requires c =
     let call = call_at (row_of (goal.at.note_tile-requires c).Start row) (standOf (goal.at.note_tile-requires c).Start) in
     let lent = work_lent (standOf (goal.at.note_tile-requires c).Start).lent.other (list_of (goal.at.note_tile-requires c).Start) in
     let g = given_is (goal.at.note_tile-requires c).Start row p c.kept_at-held.ensures c.work_part-worked.ensures in
-    let e = c.in-Done.is in
+    let e = c.in-Ok.is in
     let t = accepted call lent (ready (goal.at.note_tile-requires c).Start row p tag) e g in
     let many = count call lent (ready (goal.at.note_tile-requires c).Start row p tag) t in
     let v = both_pass (row_of (goal.at.note_tile-requires c).Start row) c.args.at (standOf (goal.at.note_tile-requires c).Start).lent p.stands (own (goal.at.note_tile-requires c).Start row p tag) (list_of (goal.at.note_tile-requires c).Start) c.requires.list_long g e in
@@ -98,41 +98,41 @@ note_tile-requires c =
       t.no_clip,
     )
 
-pub returns-in-Refused : goal.returns-in-Refused
-returns-in-Refused c =
+pub returns-in-Err : goal.returns-in-Err
+returns-in-Err c =
     let tag = ap tag_out_of_range (sym c.kept_at-held.ensures) ∙ sym c.is_tag_out_of_range.ensures ∙ c.if-is_tag_out_of_range.false in
     record {
       gives =
           λ row p.
-          turn_told_refused (row_of (goal.at.returns-in-Refused c).Start row) c.args.at (standOf (goal.at.returns-in-Refused c).Start).lent p.stands (own (goal.at.returns-in-Refused c).Start row p tag) (list_of (goal.at.returns-in-Refused c).Start) c.requires.list_long (given_is (goal.at.returns-in-Refused c).Start row p c.kept_at-held.ensures c.work_part-worked.ensures) c.in-Refused.is
-          c.refused-in-Refused.ensures;
+          turn_told_refused (row_of (goal.at.returns-in-Err c).Start row) c.args.at (standOf (goal.at.returns-in-Err c).Start).lent p.stands (own (goal.at.returns-in-Err c).Start row p tag) (list_of (goal.at.returns-in-Err c).Start) c.requires.list_long (given_is (goal.at.returns-in-Err c).Start row p c.kept_at-held.ensures c.work_part-worked.ensures) c.in-Err.is
+          c.refused-in-Err.ensures;
     }
 
-pub shape_of-next_ids-in-Done : goal.shape_of-next_ids-in-Done
-shape_of-next_ids-in-Done c = c.work_part-worked.auto.next_ids
+pub shape_of-next_ids-in-Ok : goal.shape_of-next_ids-in-Ok
+shape_of-next_ids-in-Ok c = c.work_part-worked.auto.next_ids
 
-pub shape_of-next_covers-in-Done : goal.shape_of-next_covers-in-Done
-shape_of-next_covers-in-Done c = c.work_part-worked.auto.next_covers
+pub shape_of-next_covers-in-Ok : goal.shape_of-next_covers-in-Ok
+shape_of-next_covers-in-Ok c = c.work_part-worked.auto.next_covers
 
-pub shape_of-list_ids-in-Done : goal.shape_of-list_ids-in-Done
-shape_of-list_ids-in-Done c = c.work_part-worked.auto.list_ids
+pub shape_of-list_ids-in-Ok : goal.shape_of-list_ids-in-Ok
+shape_of-list_ids-in-Ok c = c.work_part-worked.auto.list_ids
 
-pub shape_of-list_covers-in-Done : goal.shape_of-list_covers-in-Done
-shape_of-list_covers-in-Done c = c.work_part-worked.auto.list_covers
+pub shape_of-list_covers-in-Ok : goal.shape_of-list_covers-in-Ok
+shape_of-list_covers-in-Ok c = c.work_part-worked.auto.list_covers
 
-pub shape_of-list_flags-in-Done : goal.shape_of-list_flags-in-Done
-shape_of-list_flags-in-Done c = c.work_part-worked.auto.list_flags
+pub shape_of-list_flags-in-Ok : goal.shape_of-list_flags-in-Ok
+shape_of-list_flags-in-Ok c = c.work_part-worked.auto.list_flags
 
-pub returns-in-Done : goal.returns-in-Done
-returns-in-Done c =
+pub returns-in-Ok : goal.returns-in-Ok
+returns-in-Ok c =
     let tag = ap tag_out_of_range (sym c.kept_at-held.ensures) ∙ sym c.is_tag_out_of_range.ensures ∙ c.if-is_tag_out_of_range.false in
     let t = c.requires in
-    let e = c.in-Done.is in
+    let e = c.in-Ok.is in
     record {
       gives =
           λ row p.
-          let g = given_is (goal.at.returns-in-Done c).Start row p c.kept_at-held.ensures c.work_part-worked.ensures in
-          let v = both_pass (row_of (goal.at.returns-in-Done c).Start row) c.args.at (standOf (goal.at.returns-in-Done c).Start).lent p.stands (own (goal.at.returns-in-Done c).Start row p tag) (list_of (goal.at.returns-in-Done c).Start) t.list_long g e in
-          turn_done (row_of (goal.at.returns-in-Done c).Start row) (standOf (goal.at.returns-in-Done c).Start) p.stands v t.planes c.args.at (standOf (goal.at.returns-in-Done c).Start).lent refl (list_of (goal.at.returns-in-Done c).Start) t.list_long g e
+          let g = given_is (goal.at.returns-in-Ok c).Start row p c.kept_at-held.ensures c.work_part-worked.ensures in
+          let v = both_pass (row_of (goal.at.returns-in-Ok c).Start row) c.args.at (standOf (goal.at.returns-in-Ok c).Start).lent p.stands (own (goal.at.returns-in-Ok c).Start row p tag) (list_of (goal.at.returns-in-Ok c).Start) t.list_long g e in
+          turn_done (row_of (goal.at.returns-in-Ok c).Start row) (standOf (goal.at.returns-in-Ok c).Start) p.stands v t.planes c.args.at (standOf (goal.at.returns-in-Ok c).Start).lent refl (list_of (goal.at.returns-in-Ok c).Start) t.list_long g e
           (rw p.part_is at c.note_tile.ensures);
     }

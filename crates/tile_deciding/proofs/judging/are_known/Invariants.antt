@@ -1,9 +1,5 @@
-use Rattle.std.specs.Prelude.{◌-◌}
 use Rattle.tile_deciding.proofs.Meeting.{Meeting}
 use Rattle.tile_deciding.proofs.judging.are_known.Given as goal
 
 abbrev pub invariant-loop-p : goal.invariant-loop-p
 invariant-loop-p l = Meeting l.layers l.colors l.count l.ids l.n l.i l.p
-
-abbrev pub decreases-loop-p : goal.decreases-loop-p
-decreases-loop-p l = l.count - l.p

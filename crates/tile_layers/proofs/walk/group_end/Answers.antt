@@ -7,7 +7,7 @@ use Rattle.segment_rows.specs.Search.{Place, found, absent, place_in, search_of,
 use Rattle.segment_rows.specs.declared.search.Key.TheVariants.{LayerId}
 use Rattle.tile_layers.proofs.Runs.{Grouped, grouped, ordered_drop, ends_at}
 use Rattle.tile_layers.proofs.walk.group_end.Goals as goal
-use Rattle.tile_layers.proofs.walk.group_end.Goals.{In-At, Start}
+use Rattle.tile_layers.proofs.walk.group_end.Goals.{In-Ok, Start}
 
 -- what is known of the group, at the function's start
 known : (c : Start) → Grouped (drop c.args.j c.args.part.now)
@@ -24,24 +24,24 @@ answered part j id p e s =
     s ∙ ap₂ (λ (k : ℕ) (l : List ℕ). search_of (order_at (LayerId k)) l) same whole
 
 -- the segment that was found is the group's last
-at_last : (c : In-At) → c.in-At.d ≡ (known c.before.before.before.before.before.before).b
+at_last : (c : In-Ok) → c.in-Ok.d ≡ (known c.before.before.before.before.before.before).b
 at_last c =
     let a = answered c.args.part.now c.args.j _ _ c.layer_at-id.ensures c.search_last_by_layer_id.ensures in
-    let e : found c.in-At.d ≡ found (known c.before.before.before.before.before.before).b = sym (ap place_in c.in-At.is) ∙ a ∙ (known c.before.before.before.before.before.before).searched in
+    let e : found c.in-Ok.d ≡ found (known c.before.before.before.before.before.before).b = sym (ap place_in c.in-Ok.is) ∙ a ∙ (known c.before.before.before.before.before.before).searched in
     cc
 
 pub overflow_add-result : goal.overflow_add-result
-overflow_add-result c = omega (arith, at_last (goal.at.overflow_add-result c).In-At, (known (goal.at.overflow_add-result c).Start).within, length-drop c.args.j c.args.part.now)
+overflow_add-result c = omega (arith, at_last (goal.at.overflow_add-result c).In-Ok, (known (goal.at.overflow_add-result c).Start).within, length-drop c.args.j c.args.part.now)
 
-pub overflow_add-result-in-At : goal.overflow_add-result-in-At
-overflow_add-result-in-At c = omega (arith, at_last (goal.at.overflow_add-result-in-At c).In-At, (known (goal.at.overflow_add-result-in-At c).Start).within, length-drop c.args.j c.args.part.now)
+pub overflow_add-result-in-Ok : goal.overflow_add-result-in-Ok
+overflow_add-result-in-Ok c = omega (arith, at_last (goal.at.overflow_add-result-in-Ok c).In-Ok, (known (goal.at.overflow_add-result-in-Ok c).Start).within, length-drop c.args.j c.args.part.now)
 
-pub returns-in-At : goal.returns-in-At
-returns-in-At c =
-    let k = known (goal.at.returns-in-At c).Start in
-    rw (at_last (goal.at.returns-in-At c).In-At) (ends_at c.args.part.now c.args.j k.b c.requires.1 k.within k.group)
+pub returns-in-Ok : goal.returns-in-Ok
+returns-in-Ok c =
+    let k = known (goal.at.returns-in-Ok c).Start in
+    rw (at_last (goal.at.returns-in-Ok c).In-Ok) (ends_at c.args.part.now c.args.j k.b c.requires.1 k.within k.group)
 
-pub returns-in-Absent : goal.returns-in-Absent
-returns-in-Absent c =
-    let p : found (known (goal.at.returns-in-Absent c).Start).b ≡ absent c.in-Absent.field-0 = sym (known (goal.at.returns-in-Absent c).Start).searched ∙ sym (answered c.args.part.now c.args.j _ _ c.layer_at-id.ensures c.search_last_by_layer_id.ensures) ∙ ap place_in c.in-Absent.is in
+pub returns-in-Err : goal.returns-in-Err
+returns-in-Err c =
+    let p : found (known (goal.at.returns-in-Err c).Start).b ≡ absent c.in-Err.field-0 = sym (known (goal.at.returns-in-Err c).Start).searched ∙ sym (answered c.args.part.now c.args.j _ _ c.layer_at-id.ensures c.search_last_by_layer_id.ensures) ∙ ap place_in c.in-Err.is in
     absurd (let z : ◌≡◌ {A = ℕ} 0 1 = cc in omega arith)

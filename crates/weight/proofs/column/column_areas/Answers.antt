@@ -3,7 +3,7 @@ use Rattle.std.specs.Prelude.{◌^◌, ◌<◌, ◌*ℤ◌}
 use Rattle.laws.proofs.Prelude.{arith, sfits_of, ℤ, pos, mag, to_z-of_z, sfits_widen, w8, w16, SFits}
 use Rattle.laws.proofs.Prelude.{sfits, within, kept, times}
 use Rattle.cover_statements.specs.Cover.{cover_at}
-use Rattle.cover_statements.proofs.Mapped.{map_start, map_next, map_whole}
+use Rattle.cover_statements.proofs.Mapped.{map_next}
 use Rattle.weight.proofs.column.column_areas.Goals as goal
 
 -- a row's cover at 16 bits, and 32 times it
@@ -13,27 +13,8 @@ wide z h = sfits_widen {w = w8} tt (sfits_of h)
 scaled : (z : ℤ) → mag z < 2 ^ 7 → SFits w16 (pos 32 *ℤ z)
 scaled z h = sfits w16 (pos 32 *ℤ z) (omega (arith, times 32 z, within w8 z (sfits_of h)))
 
-pub loop-y-init : goal.loop-y-init
-loop-y-init c = map_start (omega (arith, c.requires))
-
-pub overflow_cast-areas : goal.overflow_cast-areas
-overflow_cast-areas c =
-    let z = cover_at c.args.covers.now c.loop-y.y in
-    rw (kept w8 z (omega arith)) (wide z (omega arith))
-
-pub overflow_mul-areas : goal.overflow_mul-areas
-overflow_mul-areas c =
-    let z = cover_at c.args.covers.now c.loop-y.y in
-    rw (kept w8 z (omega arith), to_z-of_z (wide z (omega arith))) (scaled z (omega arith))
-
 pub loop-y-preserved : goal.loop-y-preserved
 loop-y-preserved c =
     let z = cover_at c.args.covers.now c.loop-y.y in
     map_next c.loop-y.invariant (pos 0) (omega arith)
     (rw (kept w8 z (omega arith), to_z-of_z (wide z (omega arith)), to_z-of_z (scaled z (omega arith))))
-
-pub returns : goal.returns
-returns c = map_whole c.loop-y.invariant (omega arith) c.requires
-
-pub shape_of-areas : goal.shape_of-areas
-shape_of-areas c = c.loop-y.invariant.long

@@ -1,16 +1,15 @@
 -- `weight::column::fill_row` meets its contract. Assumes nothing.
-use Rattle.laws.proofs.Prelude.{refl, arith}
-use Rattle.cover_statements.proofs.PlaneRows.{row_start, row_next, row_end_step}
+use Rattle.std.specs.Prelude.{◌≡◌, ◌-◌, ◌+◌, ◌*◌}
+use Rattle.laws.proofs.Prelude.{refl, ap, ◌∙◌, ℕ, arith, length, take, drop, length-take, length-drop, replicate}
+use Rattle.std.proofs.lemmas.Slice.{put_mid-paste}
 use Rattle.weight.proofs.column.fill_row.Goals as goal
 
-pub loop-x-init : goal.loop-x-init
-loop-x-init c = row_start c.requires
-
-pub loop-x-preserved : goal.loop-x-preserved
-loop-x-preserved c = row_next c.loop-x.invariant (omega arith) refl refl
-
-pub shape_of-plane : goal.shape_of-plane
-shape_of-plane c = c.loop-x.invariant.long
-
 pub returns : goal.returns
-returns c = row_end_step c.loop-x.invariant (omega arith)
+returns c =
+    let start = c.args.y * 16 in
+    let k = start + 16 - start in
+    let wide : 16 ≡ k = omega arith in
+    let long : length (take k (drop start c.args.plane.now)) ≡ 16 = simp (length-take, length-drop) (omega arith) in
+    put_mid-paste start k c.args.plane.now c.fill.new.self (replicate 16 c.args.value) 16
+    (c.fill.ensures.after (λ y e. e) ∙ ap (λ (n : ℕ). replicate n c.args.value) long)
+    wide refl

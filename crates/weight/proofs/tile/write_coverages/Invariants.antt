@@ -1,11 +1,6 @@
-use Rattle.std.specs.Prelude.{◌-◌}
-use Rattle.laws.proofs.Prelude.{length}
 use Rattle.cover_statements.specs.InnerWeighed.{coverage_in}
 use Rattle.cover_statements.proofs.Mapped.{Mapping}
 use Rattle.weight.proofs.tile.write_coverages.Given as goal
 
 abbrev pub invariant-loop-k : goal.invariant-loop-k
 invariant-loop-k l = Mapping coverage_in l.weights l.initial.plane l.k l.plane
-
-abbrev pub decreases-loop-k : goal.decreases-loop-k
-decreases-loop-k l = length l.weights - l.k

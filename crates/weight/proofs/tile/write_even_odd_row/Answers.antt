@@ -5,9 +5,8 @@ use Rattle.styling.specs.declared.FillRule.TheVariants.{EvenOdd}
 use Rattle.cover_statements.specs.Coverage.{coverage_of}
 use Rattle.cover_statements.specs.Weight.{even_odd_of}
 use Rattle.cover_statements.specs.InnerWeighed.{weight_in, weights_of, coverage_in}
-use Rattle.cover_statements.proofs.PlaneRows.{row_start, row_next, row_end_step}
+use Rattle.cover_statements.proofs.PlaneRows.{row_next}
 use Rattle.cover_statements.proofs.Weighings.{map_lt}
-use Rattle.cover_statements.proofs.Weights.{weight_le}
 use Rattle.weight.proofs.tile.write_even_odd_row.Goals as goal
 use Rattle.weight.proofs.tile.write_even_odd_row.Goals.{After-even_odd_in}
 
@@ -19,15 +18,6 @@ own c =
 is : (c : After-even_odd_in) → c.even_odd_in.result ≡ even_odd_of (own c)
 is c = rw (kept w16 (own c) (omega arith)) at c.even_odd_in.ensures
 
-pub loop-x-init : goal.loop-x-init
-loop-x-init c = row_start c.requires.3
-
-pub even_odd_in-requires : goal.even_odd_in-requires
-even_odd_in-requires c = c.requires.0
-
-pub coverage-requires : goal.coverage-requires
-coverage-requires c = omega (arith, is c, weight_le EvenOdd (own c))
-
 pub loop-x-preserved : goal.loop-x-preserved
 loop-x-preserved c =
     let k = c.loop-x.x * 16 + c.args.y in
@@ -36,9 +26,3 @@ loop-x-preserved c =
     ∙ ap coverage_of (is (goal.at.loop-x-preserved c).After-even_odd_in)
     ∙ sym (map_lt coverage_in (weights_of EvenOdd c.args.areas.now) k nan (pos 0) (omega (arith, length-map c.args.areas.now (weight_in EvenOdd)))
     ∙ ap coverage_in (map_lt (weight_in EvenOdd) c.args.areas.now k (pos 0) (pos 0) (omega arith))))
-
-pub shape_of-plane : goal.shape_of-plane
-shape_of-plane c = c.loop-x.invariant.long
-
-pub returns : goal.returns
-returns c = row_end_step c.loop-x.invariant (omega arith)

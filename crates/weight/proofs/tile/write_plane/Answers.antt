@@ -1,28 +1,15 @@
 -- `weight::tile::write_plane` meets its contract. Assumes nothing.
 use Rattle.laws.proofs.Prelude.{ap, ◌∙◌, List, arith, Float}
 use Rattle.cover_statements.specs.InnerWeighed.{put_row}
-use Rattle.cover_statements.proofs.PlaneRows.{rows_start, rows_room, rows_next, rows_end}
-use Rattle.weight.proofs.WeightRows.{long, row_weighed, row_coverages}
+use Rattle.cover_statements.proofs.PlaneRows.{rows_next, rows_end}
+use Rattle.weight.proofs.WeightRows.{row_coverages}
 use Rattle.weight.proofs.tile.write_plane.Goals as goal
-
-pub loop-y-init : goal.loop-y-init
-loop-y-init c = rows_start c.requires.2
-
-pub row_of-row-requires : goal.row_of-row-requires
-row_of-row-requires c = (c.requires.1, c.loop-y-test.true)
-
-pub write_row-requires : goal.write_row-requires
-write_row-requires c =
-    (row_weighed c.requires.0 c.requires.1 c.loop-y-test.true c.row_of-row.ensures, long c.requires.0 c.requires.1 c.loop-y-test.true c.row_of-row.ensures, rows_room c.loop-y.invariant c.loop-y-test.true)
 
 pub loop-y-preserved : goal.loop-y-preserved
 loop-y-preserved c =
     rows_next c.loop-y.invariant c.loop-y-test.true
     (c.write_row.ensures
     ∙ ap (λ (row : List Float). put_row c.loop-y.y row c.loop-y.plane) (row_coverages c.requires.0 c.requires.1 c.loop-y-test.true c.row_of-row.ensures))
-
-pub shape_of-plane : goal.shape_of-plane
-shape_of-plane c = c.loop-y.invariant.long
 
 pub returns : goal.returns
 returns c = rows_end c.loop-y.invariant (omega arith)

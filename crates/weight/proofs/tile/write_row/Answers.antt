@@ -1,31 +1,15 @@
 -- `weight::tile::write_row` meets its contract. Assumes nothing.
-use Rattle.laws.proofs.Prelude.{refl, sym, ap, ◌∙◌, List, arith, Float, nan, pos, get_or, length-map, w16, kept, unsigned, whole, is_tabulate}
+use Rattle.laws.proofs.Prelude.{refl, sym, ap, ◌∙◌, List, arith, Float, nan, pos, get_or, length-map, w16, kept, is_tabulate}
 use Rattle.cover_statements.specs.InnerWeighed.{coverage_in, coverages_in, put_row}
-use Rattle.cover_statements.proofs.PlaneRows.{row_start, row_next, row_end_step}
+use Rattle.cover_statements.proofs.PlaneRows.{row_next, row_end_step}
 use Rattle.cover_statements.proofs.Weighings.{map_lt}
 use Rattle.weight.proofs.tile.write_row.Goals as goal
-
-pub loop-x-init : goal.loop-x-init
-loop-x-init c = row_start c.requires.2
-
-pub overflow_cast-row : goal.overflow_cast-row
-overflow_cast-row c =
-    let w = get_or c.args.row.now c.loop-x.x (pos 0) in
-    rw (kept w16 w (omega arith))
-    (unsigned w16 w (c.requires.0.low c.loop-x.x (omega (arith, c.requires.1))) (omega (arith, whole w, c.requires.0.high c.loop-x.x (omega (arith, c.requires.1)))))
-
-pub coverage-requires : goal.coverage-requires
-coverage-requires c =
-    rw (kept w16 (get_or c.args.row.now c.loop-x.x (pos 0)) (omega arith)) (c.requires.0.high c.loop-x.x (omega (arith, c.requires.1)))
 
 pub loop-x-preserved : goal.loop-x-preserved
 loop-x-preserved c =
     row_next c.loop-x.invariant (omega arith) refl
     ((rw (kept w16 (get_or c.args.row.now c.loop-x.x (pos 0)) (omega arith)) at c.coverage.ensures)
     ∙ sym (map_lt coverage_in c.args.row.now c.loop-x.x nan (pos 0) (omega (arith, c.requires.1))))
-
-pub shape_of-plane : goal.shape_of-plane
-shape_of-plane c = c.loop-x.invariant.long
 
 -- the coverages of the row are what the row of the plane is drawn from
 pub returns : goal.returns

@@ -1,4 +1,3 @@
-use Rattle.std.specs.Prelude.{◌-◌}
 use Rattle.laws.proofs.Prelude.{nan, get_or}
 use Rattle.cover_statements.specs.InnerWeighed.{coverages_in}
 use Rattle.cover_statements.proofs.PlaneRows.{Row}
@@ -6,6 +5,3 @@ use Rattle.weight.proofs.tile.write_row.Given as goal
 
 abbrev pub invariant-loop-x : goal.invariant-loop-x
 invariant-loop-x l = Row (λ column line. get_or (coverages_in l.row) column nan) l.y l.initial.plane l.x l.plane
-
-abbrev pub decreases-loop-x : goal.decreases-loop-x
-decreases-loop-x l = 16 - l.x

@@ -1,8 +1,0 @@
-use Rattle.std.specs.Prelude.{◌-◌}
-use Rattle.trace.proofs.text.planes.are_alike.Given as goal
-
-abbrev pub invariant-loop-column : goal.invariant-loop-column
-invariant-loop-column l = Unit {0}
-
-abbrev pub decreases-loop-column : goal.decreases-loop-column
-decreases-loop-column l = 16 - l.column
