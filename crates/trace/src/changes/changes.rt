@@ -60,7 +60,11 @@ fn has_record(
 
 // How often a row has a word.
 fn count_word(row: &[u64], word: u64) -> usize {
-    row.iter().filter(|other| **other == word).count()
+    let mut n: usize = 0;
+    for other in row {
+        n = n.wrapping_add((*other == word) as usize);
+    }
+    n
 }
 
 fn is_of_layer(word: u64, id: u32) -> bool {
