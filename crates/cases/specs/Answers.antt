@@ -11,8 +11,9 @@ abbrev pub is_word : Answer ℕ → ℕ → Bool
 is_word (refused n) w = false
 is_word (given v) w = eqb v w
 
+-- refused by 11
 abbrev pub is_refused : Answer ℕ → Bool
-is_refused (refused n) = true
+is_refused (refused n) = eqb n 11
 is_refused (given v) = false
 
 abbrev pub is_at : Place → ℕ → Bool

@@ -18,13 +18,13 @@ fn is_word(packed: Result<PixelSegment, Refusal>, word: u64) -> bool
     }
 }
 
-// Whether packing was refused.
+// Whether packing was refused by 11.
 fn is_refused(packed: Result<PixelSegment, Refusal>) -> bool
     ensures { result ≡ is_refused (packed_answer packed) }
 {
     match packed {
         Ok(_) => false,
-        Err(_) => true,
+        Err(refusal) => refusals::number_of(refusal) == 11,
     }
 }
 

@@ -13,7 +13,7 @@ use styling::FillRule;
 fn packs(tile_y: i16, local_y: u8, cover: i8, word: u64) -> bool {
     match GpuSegment::new(5, 2, tile_y, 3, local_y, 32, cover) {
         Ok(segment) => segment.0 == word,
-        Err(_) => word == 0,
+        Err(refusal) => (word == 0) & (refusals::number_of(refusal) == 11),
     }
 }
 

@@ -1,8 +1,6 @@
 // W-214, one language leaves another's layers be: two rows share the segments of the French layer 5 and differ in their
 // German layers, 3 in one and 7 in the other. Each is opened and worked over tiles 0 and 1, and the French layer
 // painted.
-ghost use Rattle.refusals.specs.Refusal.{given_or_refused};
-
 use cached_tile::CachedTile;
 use cached_tile::kept::Kept;
 use refusals::Refusal;
@@ -94,11 +92,11 @@ fn paint_tile(
         plane,
     );
     let work_answer = worked.answer;
-    let given_or_refused = painted.answer;
+    let paint_answer = painted.answer;
     let past = painted.state;
     Step {
         state: past,
-        taken: step.taken & is_done(work_answer) & is_marked(given_or_refused),
+        taken: step.taken & is_done(work_answer) & is_marked(paint_answer),
     }
 }
 
